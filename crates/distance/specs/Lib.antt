@@ -1,0 +1,3 @@
+pub mod Axes
+pub mod Distance
+pub mod Root
