@@ -4,7 +4,7 @@ use mathlib.Core.Path.{_≡_, refl, sym, ap, _∙_}
 use mathlib.Core.Bool.{cond}
 use mathlib.Core.List.{List}
 use Prim.Native.Nat.{ℕ, _+_, _-_, _*_, _/_, _%_, _^_, _≤_, _<_}
-use native.Mathlib.Nat.{mul-comm, zero-mul, mod-lt}
+use native.Mathlib.Nat.{mul-comm, zero-mul, mul-zero, mod-lt}
 use native.Mathlib.Omega.{arith}
 use lib.Dec.{ltb, eqb}
 use lib.Pow.{pow-pos}
@@ -41,6 +41,9 @@ size-opposite d h = grind (arith, ints)
 -- what has opposite signs cancels, if it is 0 where there is no way at all
 signs-cancel : (d n : ℕ) → d < 2 ^ 64 → n < 2 ^ 64 → (d ≡ 0 → n ≡ 0) → plus 64 (with-sign-of d n) (with-sign-of (less 64 0 d) n) ≡ 0
 signs-cancel d n h k still = grind (arith, tells)
+
+word-with-sign : (d n : ℕ) → n < 2 ^ 52 → with-sign-of d n < 2 ^ 64
+word-with-sign d n h = grind (arith, tells)
 
 size-with-sign : (d n : ℕ) → n < 2 ^ 52 → size w64 (with-sign-of d n) < 2 ^ 52
 size-with-sign d n h = grind (arith, tells, ints)
@@ -86,16 +89,25 @@ module _ (softening m n : ℕ) (least : 2 ^ 20 ≤ softening) (most : softening 
       cc in
       record {
         cancel = ap (plus 64 (impulse softening m n x y a)) back ∙ signs-cancel d strength (mod-lt _ (pow-pos 64)) (omega arith) still;
+        a-word = word-with-sign d strength small;
         weighed-bound = let b = weighed-small e w near (limits .weight-most) in omega arith;
         impulse-bound = size-with-sign d strength small;
       }
 
--- a body gives itself no impulse, since there is no way to itself
-pub impulse-alone : (softening m n a : ℕ) (here : ℕ → ℕ) → here a < 2 ^ 64 → impulse softening m n here here a ≡ 0
-impulse-alone softening m n a here h =
-    let still : way here here a ≡ 0 = omega arith in
-    let none = no-way (way here here a) (weight (squared-distance softening (way here here))) (m * n) still in
-    ap (with-sign-of (way here here a)) none ∙ rw still refl
+-- there is no impulse along an axis on which two bodies are level
+pub impulse-level : (softening m n a : ℕ) (here there : ℕ → ℕ) → here a ≡ there a → here a < 2 ^ 64 → impulse softening m n here there a ≡ 0
+impulse-level softening m n a here there e h =
+    let still : way here there a ≡ 0 = omega arith in
+    let none = no-way (way here there a) (weight (squared-distance softening (way here there))) (m * n) still in
+    ap (with-sign-of (way here there a)) none ∙ rw still refl
+
+-- nor on what has no mass
+pub impulse-massless : (softening n a : ℕ) (here there : ℕ → ℕ) → impulse softening 0 n here there a ≡ 0
+impulse-massless softening n a here there =
+    ap (with-sign-of (way here there a)) (simp (zero-mul, mul-zero)) ∙ signless (way here there a)
+  where
+    signless : (d : ℕ) → with-sign-of d 0 ≡ 0
+    signless d = grind (arith, tells)
 
 -- along the way itself, what the code puts together is the impulse by its definition
 from-parts : (softening m n : ℕ) (x y : ℕ → ℕ) (a : ℕ) → a < 3 →

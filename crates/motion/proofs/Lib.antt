@@ -1,0 +1,11 @@
+pub mod BodyWords
+pub mod Drifts
+pub mod Exchanges
+pub mod Fairness
+pub mod Kicks
+pub mod Lending
+pub mod Masses
+pub mod Rows
+pub mod Sums
+pub mod Undoing
+pub mod WholeSteps

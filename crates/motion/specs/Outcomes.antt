@@ -1,0 +1,28 @@
+-- What a call of this library leaves behind.
+-- Assumes nothing: these are definitions.
+use mathlib.Core.List.{List}
+use mathlib.Core.Path.{_≡_}
+use Prim.Native.Nat.{ℕ, _+_}
+use lib.ListN.{drop}
+use Rattle.words.specs.Words.{words}
+use Rattle.motion.specs.Bodies.{total-momentum}
+use Rattle.motion.specs.Memory.{state-length, state-of}
+use Rattle.motion.specs.Systems.{Words-state, step-of, back-of}
+use Rattle.motion.specs.Travel.{travel, state-at, time-of, forward-steps, back-steps}
+use Rattle.motion.specs.declared.system.System.{System}
+use Rattle.motion.specs.declared.turn.Turn.{Turn}
+
+-- The words of the state hold what `change` makes of the state before, and the words behind them are as they were.
+pub record Changed (system : System) (change : Words-state → Words-state) (before after : List ℕ) : Type 0 where
+  pub state : state-of (system .count) after ≡ change (state-of (system .count) before)
+  pub behind : drop (state-length (system .count)) after ≡ drop (state-length (system .count)) before
+
+-- After a row of turns the state belongs to its time, and the momenta keep their sums.
+pub record Timed (system : System) (turns : List Turn) (before after : Words-state) : Type 0 where
+  -- it is the state after the row's steps forward less its steps back, or as many steps back where that is negative
+  pub by-time : after ≡ state-at (step-of system) (back-of system) (time-of turns) before
+  -- every other row with the same difference ends in it too
+  pub time-alone : (others : List Turn) → forward-steps turns + back-steps others ≡ forward-steps others + back-steps turns →
+      after ≡ travel (step-of system) (back-of system) others before
+  -- along each axis the sum of the momenta is what it was
+  pub momentum-kept : (a : ℕ) → total-momentum (words 64) (system .count) a after ≡ total-momentum (words 64) (system .count) a before
