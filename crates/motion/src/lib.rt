@@ -1,15 +1,13 @@
 //! Motion: a step, a step back and rows of them, over words that are lent. The state belongs to the time.
 ghost use mathlib.Core.Path.{_≡_};
-ghost use mathlib.Core.List.{[], _∷_};
 ghost use Prim.Native.Nat.{_<_};
 ghost use mathlib.Core.Logic.{_⊎_};
 ghost use lib.ListN.{length, drop};
 ghost use Rattle.motion.specs.Memory.{state-of, work-length};
 ghost use Rattle.motion.specs.Outcomes.{Changed, Timed};
-ghost use Rattle.motion.specs.Promises.{Rows-keep, Changes-carry, Steps-undone, Momentum-kept, Renumbering-carries, Shifting-carries};
 ghost use Rattle.motion.specs.Refusals.{told, lent};
 ghost use Rattle.motion.specs.Systems.{Made, step-of, back-of};
-ghost use Rattle.motion.specs.Travel.{Undone, Time-decides, turned, travel as travelled};
+ghost use Rattle.motion.specs.Travel.{travel as travelled};
 ghost use Rattle.std.specs.Results.{Cases};
 use crate::steps::make_turns;
 use distance::Softening;
@@ -21,6 +19,7 @@ mod kick;
 mod refusal;
 mod steps;
 mod system;
+pub mod theorems;
 mod turn;
 
 pub use refusal::Refusal;
@@ -68,38 +67,3 @@ impl System {
         Ok(())
     }
 }
-
-/// Over any step and its undoing, the state after every row of turns is that of its time.
-pub fn time_decides<S>()
-    ensures { λ _. ⌜ ((step back : S → S) → Undone step back → Time-decides step back) ⌝ }
-{}
-
-/// What every step keeps, every row of turns keeps.
-pub fn rows_keep<S, V>()
-    ensures { λ _. ⌜ Rows-keep S V ⌝ }
-{}
-
-/// What a change of the state carries from one step to another, it carries over every row of turns.
-pub fn changes_carry<S, R>()
-    ensures { λ _. ⌜ Changes-carry S R ⌝ }
-{}
-
-/// Under every law a step of the bodies and a step back undo each other.
-pub fn steps_undo_each_other<P, D>()
-    ensures { λ _. ⌜ Steps-undone P D ⌝ }
-{}
-
-/// Under a fair law every row of turns keeps the total momentum along every axis.
-pub fn momenta_are_kept<P, D>()
-    ensures { λ _. ⌜ Momentum-kept P D ⌝ }
-{}
-
-/// Bodies numbered anew go the same way.
-pub fn renumbering_carries<P, D>()
-    ensures { λ _. ⌜ Renumbering-carries P D ⌝ }
-{}
-
-/// Bodies that are all shifted alike go the same way, shifted, under a law that the shift leaves as it is.
-pub fn shifting_carries<P, D>()
-    ensures { λ _. ⌜ Shifting-carries P D ⌝ }
-{}
