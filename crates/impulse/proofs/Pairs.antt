@@ -42,6 +42,12 @@ size-opposite d h = grind (arith, ints)
 signs-cancel : (d n : ℕ) → d < 2 ^ 64 → n < 2 ^ 64 → (d ≡ 0 → n ≡ 0) → plus 64 (with-sign-of d n) (with-sign-of (less 64 0 d) n) ≡ 0
 signs-cancel d n h k still = grind (arith, tells)
 
+positive-with-sign : (d n : ℕ) → n < 2 ^ 52 → d < 2 ^ 63 → with-sign-of d n < 2 ^ 63
+positive-with-sign d n h k = grind (arith, tells)
+
+negative-with-sign : (d n : ℕ) → n < 2 ^ 52 → 2 ^ 63 < d → with-sign-of d n < 2 ^ 63 → with-sign-of d n ≡ 0
+negative-with-sign d n h k = grind (arith, tells)
+
 word-with-sign : (d n : ℕ) → n < 2 ^ 52 → with-sign-of d n < 2 ^ 64
 word-with-sign d n h = grind (arith, tells)
 
@@ -89,6 +95,8 @@ module _ (softening m n : ℕ) (least : 2 ^ 20 ≤ softening) (most : softening 
       cc in
       record {
         cancel = ap (plus 64 (impulse softening m n x y a)) back ∙ signs-cancel d strength (mod-lt _ (pow-pos 64)) (omega arith) still;
+        toward = positive-with-sign d strength small;
+        toward-below = negative-with-sign d strength small;
         a-word = word-with-sign d strength small;
         weighed-bound = let b = weighed-small e w near (limits .weight-most) in omega arith;
         impulse-bound = size-with-sign d strength small;

@@ -40,6 +40,9 @@ Position x = (a : ℕ) → a < 3 → x a < 2 ^ 64
 pub record Pair-of-impulses (softening m n : ℕ) (here there : ℕ → ℕ) (a : ℕ) : Type 0 where
   -- what the two give each other cancels
   pub cancel : plus 64 (impulse softening m n here there a) (impulse softening n m there here a) ≡ 0
+  -- a body is drawn toward the other, or not at all
+  pub toward : way here there a < 2 ^ 63 → impulse softening m n here there a < 2 ^ 63
+  pub toward-below : 2 ^ 63 < way here there a → impulse softening m n here there a < 2 ^ 63 → impulse softening m n here there a ≡ 0
   -- an impulse is a word, and nothing on the way to it comes near 64 bits
   pub a-word : impulse softening m n here there a < 2 ^ 64
   pub weighed-bound : weighed softening (way here there) a < 2 ^ 52

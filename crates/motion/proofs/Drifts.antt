@@ -26,21 +26,21 @@ pub drifted-more : (system : System) (direction : Direction) (b m s : ℕ) (xs y
     6 * b + 6 ≤ length ys → length zs ≡ 6 → s ≡ 6 → m ≡ mass-of system b → Drifted direction m (between (6 * b) (6 * b + 6) ys) zs →
     All-drifted system direction (b + 1) xs (putMid (6 * b) s ys zs)
 drifted-more system direction b m s xs ys zs all room six s-is mass one =
-  let own = own-part ys b room zs six s s-is in
-  let other = other-part ys b room zs six s s-is in
-  let was = part-reads ys b room in
-  record {
-    momenta = λ c a h. let k : 2 * a + 1 < 6 = omega arith in elim (eqb-tells c b) [
-        inl t ↦ rw (t .1) (own (2 * a + 1) k ∙ one .momenta a h ∙ was (2 * a + 1) k ∙ all .momenta b a h)
-      | inr t ↦ other c (t .1) (2 * a + 1) k ∙ all .momenta c a h
+    let own = own-part ys b room zs six s s-is in
+    let other = other-part ys b room zs six s s-is in
+    let was = part-reads ys b room in
+    record {
+      momenta = λ c a h. let k : 2 * a + 1 < 6 = omega arith in elim (eqb-tells c b) [
+        | inl t ↦ rw (t .1) (own (2 * a + 1) k ∙ one .momenta a h ∙ was (2 * a + 1) k ∙ all .momenta b a h)
+        | inr t ↦ other c (t .1) (2 * a + 1) k ∙ all .momenta c a h
       ];
-    done = λ c below a h.
-      let k : 2 * a < 6 = omega arith in
-      let k′ : 2 * a + 1 < 6 = omega arith in
-      elim (eqb-tells c b) [
-        inl t ↦ rw (t .1) (own (2 * a) k ∙ one .positions a h
-          ∙ (λ i. moved direction ((was (2 * a) k ∙ all .rest b (omega arith) a h) i) (divided w64 ((was (2 * a + 1) k′ ∙ all .momenta b a h) i) (mass i))))
-      | inr t ↦ other c (t .1) (2 * a) k ∙ all .done c (omega arith) a h
-      ];
-    rest = λ c above a h. let k : 2 * a < 6 = omega arith in other c (omega arith) (2 * a) k ∙ all .rest c (omega arith) a h;
-  }
+      done = λ c below a h.
+          let k : 2 * a < 6 = omega arith in
+          let k′ : 2 * a + 1 < 6 = omega arith in
+          elim (eqb-tells c b) [
+            | inl t ↦ rw (t .1) (own (2 * a) k ∙ one .positions a h
+                ∙ (λ i. moved direction ((was (2 * a) k ∙ all .rest b (omega arith) a h) i) (divided w64 ((was (2 * a + 1) k′ ∙ all .momenta b a h) i) (mass i))))
+            | inr t ↦ other c (t .1) (2 * a) k ∙ all .done c (omega arith) a h
+          ];
+      rest = λ c above a h. let k : 2 * a < 6 = omega arith in other c (omega arith) (2 * a) k ∙ all .rest c (omega arith) a h;
+    }

@@ -51,7 +51,7 @@ pub impulse-read : (system : System) (xs : List ℕ) (a i j : ℕ) → i < syste
     ≡ impulse (system .softening .value) (mass-of system i) (mass-of system j) (along (by-axis (position-at xs i))) (along (by-axis (position-at xs j))) a % 2 ^ 64
 impulse-read system xs a i j h k words = λ t.
     impulse (system .softening .value) (mass-of system i) (mass-of system j)
-      (position-read (system .count) i xs h words t) (position-read (system .count) j xs k words t) a % 2 ^ 64
+    (position-read (system .count) i xs h words t) (position-read (system .count) j xs k words t) a % 2 ^ 64
 
 -- fs is what the code worked out for bodies of masses m and n at p and q, which are bodies i and j of the system
 module _ (system : System) (direction : Direction) (i j : ℕ) (xs fs p q : List ℕ) (m n : ℕ) (first : i < system .count) (second : j < system .count)
@@ -124,10 +124,10 @@ module _ (system : System) (direction : Direction) (i j : ℕ) (xs ys zs fs : Li
   position-kept b a h =
       let k : 2 * a < 6 = omega arith in
       elim (eqb-tells b j) [
-        inl e ↦ rw (e .1) (second-part (2 * a) k ∙ kick′ .positions a h ∙ second-was (2 * a) k)
-      | inr e ↦ other-parts b (e .1) (2 * a) k ∙ elim (eqb-tells b i) [
-          inl f ↦ rw (f .1) (first-part (2 * a) k ∙ kick .positions a h ∙ part-reads xs i room (2 * a) k)
-        | inr f ↦ old-parts b (f .1) (2 * a) k
+        | inl e ↦ rw (e .1) (second-part (2 * a) k ∙ kick′ .positions a h ∙ second-was (2 * a) k)
+        | inr e ↦ other-parts b (e .1) (2 * a) k ∙ elim (eqb-tells b i) [
+          | inl f ↦ rw (f .1) (first-part (2 * a) k ∙ kick .positions a h ∙ part-reads xs i room (2 * a) k)
+          | inr f ↦ old-parts b (f .1) (2 * a) k
         ]
       ]
 
@@ -136,14 +136,14 @@ module _ (system : System) (direction : Direction) (i j : ℕ) (xs ys zs fs : Li
   exchanged = record {
     positions = position-kept;
     first = λ a h.
-      let k : 2 * a + 1 < 6 = omega arith in
-      other-parts i (λ e. apart (sym e)) (2 * a + 1) k ∙ first-part (2 * a + 1) k ∙ kick .momenta a h
-      ∙ (λ l. moved direction (part-reads xs i room (2 * a + 1) k l) (gives a h l));
+        let k : 2 * a + 1 < 6 = omega arith in
+        other-parts i (λ e. apart (sym e)) (2 * a + 1) k ∙ first-part (2 * a + 1) k ∙ kick .momenta a h
+        ∙ (λ l. moved direction (part-reads xs i room (2 * a + 1) k l) (gives a h l));
     second = λ a h.
-      let k : 2 * a + 1 < 6 = omega arith in
-      second-part (2 * a + 1) k ∙ kick′ .momenta a h
-      ∙ ap (λ m. moved (opposite direction) m (along fs a)) (second-was (2 * a + 1) k) ∙ takes a h _;
+        let k : 2 * a + 1 < 6 = omega arith in
+        second-part (2 * a + 1) k ∙ kick′ .momenta a h
+        ∙ ap (λ m. moved (opposite direction) m (along fs a)) (second-was (2 * a + 1) k) ∙ takes a h _;
     others = λ b ne ne′ a h.
-      let k : 2 * a + 1 < 6 = omega arith in
-      other-parts b ne′ (2 * a + 1) k ∙ old-parts b ne (2 * a + 1) k;
+        let k : 2 * a + 1 < 6 = omega arith in
+        other-parts b ne′ (2 * a + 1) k ∙ old-parts b ne (2 * a + 1) k;
   }

@@ -23,7 +23,7 @@ words-cancel f g e = same-word (omega arith)
 pub fair-law : (softening : ℕ) (mass : ℕ → ℕ) → 2 ^ 20 ≤ softening → softening ≤ 2 ^ 40 → ((i : ℕ) → mass i ≤ 1023) → Fair (words 64) (law-of softening mass)
 fair-law softening mass least most light = record {
   opposite = λ x a i j. words-cancel _ _
-    (pair-of-impulses softening (mass i) (mass j) least most (light i) (light j) (λ b. x i b .value) (λ b. x j b .value)
+      (pair-of-impulses softening (mass i) (mass j) least most (light i) (light j) (λ b. x i b .value) (λ b. x j b .value)
       (λ b _. x i b .small) (λ b _. x j b .small) a (x i a .small) (x j a .small) .cancel);
   alone = λ x a i. ap (word 64) (impulse-level softening (mass i) (mass i) a (λ b. x i b .value) (λ b. x i b .value) refl (x i a .small));
 }
@@ -40,5 +40,5 @@ module _ (system : System) where
     by-time = e ∙ time-decides system-undone .by-time turns s;
     time-alone = λ others h. e ∙ time-decides system-undone .time-alone turns others s h;
     momentum-kept = λ a. ap (total-momentum (words 64) (system .count) a) e
-      ∙ momentum-kept (words-lawful 64) (words-lawful 64) (system-law system) (system .count) system-fair a .by-row turns s;
+        ∙ momentum-kept (words-lawful 64) (words-lawful 64) (system-law system) (system .count) system-fair a .by-row turns s;
   }

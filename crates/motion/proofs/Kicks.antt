@@ -33,12 +33,12 @@ moved-none Behind m h = omega arith
 -- what is the same for every body and axis is held the same
 pub held-within : (n : ℕ) (f g : ℕ → ℕ → ℕ) → ((b a : ℕ) → b < n → a < 3 → f b a ≡ g b a) → (b a : ℕ) → held n f b a ≡ held n g b a
 held-within n f g same b a = ap (word 64) (elim (leb-tells (suc a) 3) [
-    inl t ↦ elim (leb-tells (suc b) n) [
-        inl u ↦ ap (λ p. cond (inside n b a) p 0) (same b a (u .1) (t .1))
-      | inr u ↦ rw (t .0) (rw (u .0) refl)
-      ]
+  | inl t ↦ elim (leb-tells (suc b) n) [
+    | inl u ↦ ap (λ p. cond (inside n b a) p 0) (same b a (u .1) (t .1))
+    | inr u ↦ rw (t .0) (rw (u .0) refl)
+  ]
   | inr t ↦ rw (t .0) refl
-  ])
+])
 
 pub held-same : (n : ℕ) (f g : ℕ → ℕ → ℕ) → ((b a : ℕ) → a < 3 → f b a ≡ g b a) → (b a : ℕ) → held n f b a ≡ held n g b a
 held-same n f g same = held-within n f g (λ b a _ h. same b a h)
@@ -70,8 +70,8 @@ module _ (system : System) (xs : List ℕ) where
   pub gathered-own : (a b : ℕ) → gathered system xs a b b ≡ gathered system xs a b (b + 1)
   gathered-own a b =
       let alone : impulse-at system xs a b b ≡ 0 =
-          ap (λ n. n % 2 ^ 64) (impulse-level (system .softening .value) (mass-of system b) (mass-of system b) a
-            (λ c. state-of (system .count) xs .position b c .value) (λ c. state-of (system .count) xs .position b c .value) refl (state-of (system .count) xs .position b a .small)) in
+      ap (λ n. n % 2 ^ 64) (impulse-level (system .softening .value) (mass-of system b) (mass-of system b) a
+      (λ c. state-of (system .count) xs .position b c .value) (λ c. state-of (system .count) xs .position b c .value) refl (state-of (system .count) xs .position b a .small)) in
       let small = gathered-word a b b in
       sym (gathered-more a b b ∙ ap (λ n. (n + gathered system xs a b b) % 2 ^ 64) alone ∙ omega arith)
 
@@ -96,19 +96,19 @@ row-none system direction i xs words = record {
 pub row-more : (system : System) (direction : Direction) (i j : ℕ) (xs ys zs : List ℕ) → j < i →
     Row-exchanged system direction i j xs ys → Exchanged system direction i j ys zs → Row-exchanged system direction i (j + 1) xs zs
 row-more system direction i j xs ys zs second row one =
-  let stays = impulse-stays system xs ys (row .positions) in
-  record {
-    positions = λ b a h. one .positions b a h ∙ row .positions b a h;
-    done = λ b h a k. elim (eqb-tells b j) [
-        inl t ↦ rw (t .1) (one .second a k ∙ (λ l. moved direction (row .rest j (omega arith) (omega arith) a k l) (stays a j i l)))
-      | inr t ↦ one .others b (omega arith) (t .1) a k ∙ row .done b (omega arith) a k
+    let stays = impulse-stays system xs ys (row .positions) in
+    record {
+      positions = λ b a h. one .positions b a h ∙ row .positions b a h;
+      done = λ b h a k. elim (eqb-tells b j) [
+        | inl t ↦ rw (t .1) (one .second a k ∙ (λ l. moved direction (row .rest j (omega arith) (omega arith) a k l) (stays a j i l)))
+        | inr t ↦ one .others b (omega arith) (t .1) a k ∙ row .done b (omega arith) a k
       ];
-    own = λ a k.
-      one .first a k ∙ (λ l. moved direction (row .own a k l) (stays a i j l))
-      ∙ moved-more direction _ _ _ (gathered-word system xs a i j) (impulse-word system xs a i j)
-      ∙ ap (moved direction (momentum-at xs i a)) (sym (gathered-more system xs a i j));
-    rest = λ b h ne a k. one .others b ne (omega arith) a k ∙ row .rest b (omega arith) ne a k;
-  }
+      own = λ a k.
+          one .first a k ∙ (λ l. moved direction (row .own a k l) (stays a i j l))
+          ∙ moved-more direction _ _ _ (gathered-word system xs a i j) (impulse-word system xs a i j)
+          ∙ ap (moved direction (momentum-at xs i a)) (sym (gathered-more system xs a i j));
+      rest = λ b h ne a k. one .others b ne (omega arith) a k ∙ row .rest b (omega arith) ne a k;
+    }
 
 -- no row yet
 pub kicked-none : (system : System) (direction : Direction) (xs : List ℕ) → All-kicked system direction 0 xs xs
@@ -118,18 +118,18 @@ kicked-none system direction xs = record { positions = λ _ _ _. refl; done = λ
 pub kicked-more : (system : System) (direction : Direction) (i : ℕ) (xs ys zs : List ℕ) →
     All-kicked system direction i xs ys → Row-exchanged system direction i i ys zs → All-kicked system direction (i + 1) xs zs
 kicked-more system direction i xs ys zs all row =
-  let stays = impulse-stays system xs ys (all .positions) in
-  let sums = gathered-stays system xs ys (all .positions) in
-  record {
-    positions = λ b a h. row .positions b a h ∙ all .positions b a h;
-    done = λ b h a k. elim (eqb-tells b i) [
-        inl t ↦ rw (t .1) (row .own a k ∙ (λ l. moved direction (all .rest i (omega arith) a k l) ((sums a i i ∙ gathered-own system xs a i) l)))
-      | inr t ↦ row .done b (omega arith) a k ∙ (λ l. moved direction (all .done b (omega arith) a k l) (stays a b i l))
-          ∙ moved-more direction _ _ _ (gathered-word system xs a b i) (impulse-word system xs a b i)
-          ∙ ap (moved direction (momentum-at xs b a)) (sym (gathered-more system xs a b i))
+    let stays = impulse-stays system xs ys (all .positions) in
+    let sums = gathered-stays system xs ys (all .positions) in
+    record {
+      positions = λ b a h. row .positions b a h ∙ all .positions b a h;
+      done = λ b h a k. elim (eqb-tells b i) [
+        | inl t ↦ rw (t .1) (row .own a k ∙ (λ l. moved direction (all .rest i (omega arith) a k l) ((sums a i i ∙ gathered-own system xs a i) l)))
+        | inr t ↦ row .done b (omega arith) a k ∙ (λ l. moved direction (all .done b (omega arith) a k l) (stays a b i l))
+            ∙ moved-more direction _ _ _ (gathered-word system xs a b i) (impulse-word system xs a b i)
+            ∙ ap (moved direction (momentum-at xs b a)) (sym (gathered-more system xs a b i))
       ];
-    rest = λ b h a k. row .rest b (omega arith) (omega arith) a k ∙ all .rest b (omega arith) a k;
-  }
+      rest = λ b h a k. row .rest b (omega arith) (omega arith) a k ∙ all .rest b (omega arith) a k;
+    }
 
 -- the roots of the first i rows and of row i are within those of all pairs
 pub row-room : (i n s len : ℕ) → s + s + i ≡ i * i → i < n → len ≡ work-length n → s + i ≤ len

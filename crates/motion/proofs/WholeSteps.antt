@@ -48,12 +48,12 @@ moves-none Behind = same-word refl
 -- a body and an axis exist, or one of them doesn't
 exists : (n b a : ℕ) → ((a < 3) × (b < n) × (inside n b a ≡ true)) ⊎ (((3 ≤ a) ⊎ (n ≤ b)) × (inside n b a ≡ false))
 exists n b a = elim (leb-tells (suc a) 3) [
-    inl t ↦ elim (leb-tells (suc b) n) [
-        inl u ↦ inl (t .1, u .1, rw (t .0) (u .0))
-      | inr u ↦ inr (inr (omega arith), rw (t .0) (u .0))
-      ]
-  | inr t ↦ inr (inl (omega arith), rw (t .0) refl)
+  | inl t ↦ elim (leb-tells (suc b) n) [
+    | inl u ↦ inl (t .1, u .1, rw (t .0) (u .0))
+    | inr u ↦ inr (inr (omega arith), rw (t .0) (u .0))
   ]
+  | inr t ↦ inr (inl (omega arith), rw (t .0) refl)
+]
 
 held-inside : (n : ℕ) (at : ℕ → ℕ → ℕ) (b a : ℕ) → inside n b a ≡ true → held n at b a ≡ word 64 (at b a)
 held-inside n at b a e = ap (λ t. word 64 (cond t (at b a) 0)) e
@@ -75,7 +75,7 @@ module _ (system : System) where
   unfolding reads
   no-impulse xs a b j (inl h) =
       ap (word 64) (impulse-level (system .softening .value) (mass-of system b) (mass-of system j) a (reads xs b) (reads xs j) (level b ∙ sym (level j))
-        (state-of (system .count) xs .position b a .small))
+      (state-of (system .count) xs .position b a .small))
     where
       level : (c : ℕ) → state-of (system .count) xs .position c a .value ≡ 0
       level c = rw (le-ltb a 3 h) refl
@@ -92,25 +92,26 @@ module _ (system : System) where
       held (system .count) (momentum-at ys) b a ≡ moves direction (held (system .count) (momentum-at xs) b a) (pull xs b a)
   unfolding pull
   kick-held direction xs ys kick b a = elim (exists (system .count) b a) [
-      inl e ↦ held-inside _ (momentum-at ys) b a (e .2) ∙ ap (word 64) (kick .done b (e .1) a (e .0)) ∙ moves-word direction _ (pull xs b a)
+    | inl e ↦ held-inside _ (momentum-at ys) b a (e .2) ∙ ap (word 64) (kick .done b (e .1) a (e .0)) ∙ moves-word direction _ (pull xs b a)
         ∙ ap (λ w. moves direction w (pull xs b a)) (sym (held-inside _ (momentum-at xs) b a (e .2)))
     | inr e ↦ held-outside _ (momentum-at ys) b a (e .1) ∙ sym (moves-none direction)
         ∙ (λ k. moves direction (sym (held-outside _ (momentum-at xs) b a (e .1)) k) (sym (pull-outside xs b a (e .0)) k))
-    ]
+  ]
 
   drift-held : (direction : Direction) (xs ys : List ℕ) → ((k : ℕ) → getD xs k 0 < 2 ^ 64) → All-drifted system direction (system .count) xs ys → (b a : ℕ) →
       held (system .count) (position-at ys) b a
       ≡ moves direction (held (system .count) (position-at xs) b a) (system-law system .motion b a (held (system .count) (momentum-at xs) b a))
   drift-held direction xs ys fit drift b a = elim (exists (system .count) b a) [
-      inl e ↦ held-inside _ (position-at ys) b a (e .2) ∙ ap (word 64) (drift .done b (e .1) a (e .0) ∙ ap (moved direction (position-at xs b a)) (way b a))
+    | inl e ↦ held-inside _ (position-at ys) b a (e .2) ∙ ap (word 64) (drift .done b (e .1) a (e .0) ∙ ap (moved direction (position-at xs b a)) (way b a))
         ∙ moves-word direction _ (system-law system .motion b a (word 64 (momentum-at xs b a)))
         ∙ (λ k. moves direction (sym (held-inside _ (position-at xs) b a (e .2)) k) (system-law system .motion b a (sym (held-inside _ (momentum-at xs) b a (e .2)) k)))
     | inr e ↦ held-outside _ (position-at ys) b a (e .1) ∙ sym (moves-none direction)
         ∙ (λ k. moves direction (sym (held-outside _ (position-at xs) b a (e .1)) k) (sym (still b a (e .1)) k))
-    ]
+  ]
     where
       way : (b a : ℕ) → divided w64 (momentum-at xs b a) (mass-of system b) ≡ system-law system .motion b a (word 64 (momentum-at xs b a)) .value
       way b a = sym (mod-eq-of-lt (divided-word _ _ (fit _))) ∙ ap (λ m. divided w64 m (mass-of system b) % 2 ^ 64) (sym (mod-eq-of-lt (fit _)))
+
       still : (b a : ℕ) → inside (system .count) b a ≡ false → system-law system .motion b a (held (system .count) (momentum-at xs) b a) ≡ word 64 0
       still b a out = ap (system-law system .motion b a) (held-outside _ (momentum-at xs) b a out) ∙ ap (word 64) (divided-none (mass-of system b))
 
@@ -122,6 +123,7 @@ module _ (system : System) where
     where
       same : (b a : ℕ) → held (system .count) (momentum-at zs) b a ≡ held (system .count) (momentum-at ys) b a
       same = held-same (system .count) (momentum-at zs) (momentum-at ys) (drift .momenta)
+
       place : (b a : ℕ) → held (system .count) (position-at zs) b a ≡ step-of system (state-of (system .count) xs) .position b a
       place b a =
           drift-held Ahead ys zs fit drift b a
@@ -135,8 +137,9 @@ module _ (system : System) where
     where
       stays : (b a : ℕ) → held (system .count) (position-at zs) b a ≡ held (system .count) (position-at ys) b a
       stays = held-same (system .count) (position-at zs) (position-at ys) (kick .positions)
+
       drive : (b a : ℕ) → held (system .count) (momentum-at zs) b a ≡ back-of system (state-of (system .count) xs) .momentum b a
       drive b a =
           kick-held Behind ys zs kick b a
           ∙ (λ k. moves Behind (held-same (system .count) (momentum-at ys) (momentum-at xs) (drift .momenta) b a k)
-              (sum-of (words 64) (system-law system .impulse (λ c d. drift-held Behind xs ys fit drift c d k) a b) (system .count)))
+          (sum-of (words 64) (system-law system .impulse (λ c d. drift-held Behind xs ys fit drift c d k) a b) (system .count)))

@@ -1,5 +1,6 @@
 pub mod Bodies
 pub mod Changes
+pub mod Checks
 pub mod Memory
 pub mod Outcomes
 pub mod Promises

@@ -3,12 +3,16 @@
 use mathlib.Core.List.{List}
 use mathlib.Core.Path.{_≡_}
 use Prim.Native.Nat.{ℕ, _+_}
-use lib.ListN.{drop}
+use lib.ListN.{length, drop}
+use Rattle.std.specs.Results.{Cases}
+use Rattle.std.specs.declared.result.Result.{Result}
 use Rattle.words.specs.Words.{words}
 use Rattle.motion.specs.Bodies.{total-momentum}
-use Rattle.motion.specs.Memory.{state-length, state-of}
+use Rattle.motion.specs.Memory.{state-length, work-length, state-of}
+use Rattle.motion.specs.Refusals.{told, lent}
 use Rattle.motion.specs.Systems.{Words-state, step-of, back-of}
 use Rattle.motion.specs.Travel.{travel, state-at, time-of, forward-steps, back-steps}
+use Rattle.motion.specs.declared.refusal.Refusal.{Refusal}
 use Rattle.motion.specs.declared.system.System.{System}
 use Rattle.motion.specs.declared.turn.Turn.{Turn}
 
@@ -16,6 +20,15 @@ use Rattle.motion.specs.declared.turn.Turn.{Turn}
 pub record Changed (system : System) (change : Words-state → Words-state) (before after : List ℕ) : Type 0 where
   pub state : state-of (system .count) after ≡ change (state-of (system .count) before)
   pub behind : drop (state-length (system .count)) after ≡ drop (state-length (system .count)) before
+
+-- What a call answers and what it leaves in the lent slices: either `change` was made, or the call is refused, by the lengths
+-- alone, and nothing has changed. The words of work in use may hold anything after it.
+pub record Outcome (system : System) (change : Words-state → Words-state) (answer : Result (Unit {0}) Refusal)
+    (state state-after work work-after : List ℕ) : Type 0 where
+  pub told-so : told answer ≡ lent (system .count) (length state) (length work)
+  pub state-left : Cases answer (λ _. Changed system change state state-after) (λ _. state-after ≡ state)
+  pub work-left : Cases answer
+      (λ _. drop (work-length (system .count)) work-after ≡ drop (work-length (system .count)) work) (λ _. work-after ≡ work)
 
 -- After a row of turns the state belongs to its time, and the momenta keep their sums.
 pub record Timed (system : System) (turns : List Turn) (before after : Words-state) : Type 0 where

@@ -27,7 +27,14 @@ fn body_of(system: &System, body: usize, state: &[u64]) -> Body
 }
 
 /// Has two bodies give each other their impulses. The root of their distance is looked for from `start`, and handed back.
-fn exchange(system: &System, i: usize, j: usize, state: &mut [u64], start: u64, direction: Direction) -> u64
+fn exchange(
+    system: &System,
+    i: usize,
+    j: usize,
+    state: &mut [u64],
+    start: u64,
+    direction: Direction,
+) -> u64
     requires first { ⌜ i < now system .count ⌝ }
     requires second { ⌜ j < i ⌝ }
     requires state { ⌜ length (now state) ≡ 6 * now system .count ⌝ }
@@ -37,12 +44,22 @@ fn exchange(system: &System, i: usize, j: usize, state: &mut [u64], start: u64, 
     let other = body_of(system, j, state);
     let impulse = impulse_on(body, other, system.softening, start);
     kick(&mut state[6 * i..6 * i + 6], impulse.on_axes, direction);
-    kick(&mut state[6 * j..6 * j + 6], impulse.on_axes, direction.opposite());
+    kick(
+        &mut state[6 * j..6 * j + 6],
+        impulse.on_axes,
+        direction.opposite(),
+    );
     impulse.root
 }
 
 /// Has body `i` and each body before it give each other their impulses. `roots` are those of these pairs.
-fn exchange_row(system: &System, i: usize, state: &mut [u64], roots: &mut [u64], direction: Direction)
+fn exchange_row(
+    system: &System,
+    i: usize,
+    state: &mut [u64],
+    roots: &mut [u64],
+    direction: Direction,
+)
     requires body { ⌜ i < now system .count ⌝ }
     requires state { ⌜ length (now state) ≡ 6 * now system .count ⌝ }
     requires roots { ⌜ length (now roots) ≡ i ⌝ }

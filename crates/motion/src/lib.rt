@@ -2,18 +2,18 @@
 ghost use mathlib.Core.Path.{_≡_};
 ghost use Prim.Native.Nat.{_<_};
 ghost use mathlib.Core.Logic.{_⊎_};
-ghost use lib.ListN.{length, drop};
-ghost use Rattle.motion.specs.Memory.{state-of, work-length};
-ghost use Rattle.motion.specs.Outcomes.{Changed, Timed};
-ghost use Rattle.motion.specs.Refusals.{told, lent};
+ghost use lib.ListN.{length};
+ghost use Rattle.motion.specs.Memory.{state-of};
+ghost use Rattle.motion.specs.Outcomes.{Outcome, Timed};
 ghost use Rattle.motion.specs.Systems.{Made, step-of, back-of};
-ghost use Rattle.motion.specs.Travel.{travel as travelled};
+ghost use Rattle.motion.specs.Travel.{turned, travel as travelled};
 ghost use Rattle.std.specs.Results.{Cases};
 use crate::steps::make_turns;
 use distance::Softening;
 use words::Mass;
 
 mod body;
+mod checks;
 mod drift;
 mod kick;
 mod refusal;
@@ -22,6 +22,7 @@ mod system;
 pub mod theorems;
 mod turn;
 
+pub use checks::check_sum;
 pub use refusal::Refusal;
 pub use system::System;
 pub use turn::Turn;
@@ -50,10 +51,8 @@ impl System {
     /// Makes a row of turns. `state` holds the 6 words of each body, `work` a word for each pair of bodies, which may be
     /// anything; what lies behind them is not touched.
     pub fn travel(&self, turns: &[Turn], state: &mut [u64], work: &mut [u64]) -> Result<(), Refusal>
-        ensures answer { λ r. ⌜ told r ≡ lent (now (self .entry) .count) (length (now (state .entry))) (length (now (work .entry))) ⌝ }
-        ensures state { λ r. ⌜ Cases r (λ _. Changed (now (self .entry)) (travelled (step-of (now (self .entry))) (back-of (now (self .entry))) (now (turns .entry))) (now (state .entry)) (now (state .exit))) (λ _. now (state .exit) ≡ now (state .entry)) ⌝ }
+        ensures outcome { λ r. ⌜ Outcome (now (self .entry)) (travelled (step-of (now (self .entry))) (back-of (now (self .entry))) (now (turns .entry))) r (now (state .entry)) (now (state .exit)) (now (work .entry)) (now (work .exit)) ⌝ }
         ensures timed { λ r. ⌜ Cases r (λ _. Timed (now (self .entry)) (now (turns .entry)) (state-of (now (self .entry) .count) (now (state .entry))) (state-of (now (self .entry) .count) (now (state .exit)))) (λ _. Unit {0}) ⌝ }
-        ensures work { λ r. ⌜ Cases r (λ _. drop (work-length (now (self .entry) .count)) (now (work .exit)) ≡ drop (work-length (now (self .entry) .count)) (now (work .entry))) (λ _. now (work .exit) ≡ now (work .entry)) ⌝ }
     {
         let words = 6 * self.count;
         let pairs = self.count * (self.count - 1) / 2;
@@ -65,5 +64,26 @@ impl System {
         }
         make_turns(self, turns, &mut state[0..words], &mut work[0..pairs]);
         Ok(())
+    }
+
+    /// Makes one turn of the lever.
+    pub fn turn(&self, turn: Turn, state: &mut [u64], work: &mut [u64]) -> Result<(), Refusal>
+        ensures { λ r. ⌜ Outcome (now (self .entry)) (turned (step-of (now (self .entry))) (back-of (now (self .entry))) turn) r (now (state .entry)) (now (state .exit)) (now (work .entry)) (now (work .exit)) ⌝ }
+    {
+        self.travel(&[turn], state, work)
+    }
+
+    /// Makes a step.
+    pub fn step(&self, state: &mut [u64], work: &mut [u64]) -> Result<(), Refusal>
+        ensures { λ r. ⌜ Outcome (now (self .entry)) (step-of (now (self .entry))) r (now (state .entry)) (now (state .exit)) (now (work .entry)) (now (work .exit)) ⌝ }
+    {
+        self.turn(Turn::Forward(1), state, work)
+    }
+
+    /// Makes a step back.
+    pub fn step_back(&self, state: &mut [u64], work: &mut [u64]) -> Result<(), Refusal>
+        ensures { λ r. ⌜ Outcome (now (self .entry)) (back-of (now (self .entry))) r (now (state .entry)) (now (state .exit)) (now (work .entry)) (now (work .exit)) ⌝ }
+    {
+        self.turn(Turn::Back(1), state, work)
     }
 }

@@ -2,51 +2,149 @@
 use distance::Softening;
 use motion::System;
 use motion::Turn;
+use motion::check_sum;
+use std::alloc::Global;
 use std::env;
 use std::error::AnyError;
+use std::time::Duration;
 use std::time::Instant;
 use words::Mass;
 
-fn next(seed: &mut u64) -> u64 {
+const HELP: &str = "usage: soak STEPS SEED [words]
+
+Makes a random system of 64 bodies from SEED, goes STEPS steps forward and STEPS steps back, and tells the
+check sum of the state in the opening, in the middle and after, and whether the words of the opening are back.
+With `words` it lists the words of the middle too. The time goes to standard error.";
+
+/// A system and the words of its opening state.
+#[derive(Drop)]
+struct Opening {
+    system: System,
+    state: Vec<u64>,
+}
+
+/// What the command line asks for.
+#[derive(Drop)]
+struct Request {
+    steps: u64,
+    seed: u64,
+    words: bool,
+}
+
+/// Gives the next random word (splitmix64).
+fn draw(seed: &mut u64) -> u64 {
     *seed = seed.wrapping_add(0x9e37_79b9_7f4a_7c15);
     let a = (*seed ^ (*seed >> 30)).wrapping_mul(0xbf58_476d_1ce4_e5b9);
     let b = (a ^ (a >> 27)).wrapping_mul(0x94d0_49bb_1331_11eb);
     b ^ (b >> 31)
 }
 
-fn mass(seed: &mut u64) -> Option<Mass> {
-    Mass::new((1 + next(seed) % 1023) as u16)
+/// Makes a random system whose bodies are anywhere, with momenta of 48 bits.
+fn random_opening(heap: Global, mut seed: u64) -> Result<Opening, AnyError> {
+    let span = Softening::MOST - Softening::LEAST + 1;
+    let Some(softening) = Softening::new(Softening::LEAST + draw(&mut seed) % span) else {
+        return Err("a softening out of range".into());
+    };
+    let mut masses = Vec::new(heap);
+    for _ in 0..System::MOST_BODIES {
+        let Some(mass) = Mass::new((1 + draw(&mut seed) % 1023) as u16) else {
+            return Err("a mass out of range".into());
+        };
+        masses.push(mass)?;
+    }
+    let mut state = Vec::new(heap);
+    for _ in 0..3 * System::MOST_BODIES {
+        state.push(draw(&mut seed))?;
+        state.push((draw(&mut seed).cast_signed() >> 16).cast_unsigned())?;
+    }
+    let Ok(system) = System::new(softening, masses.as_slice()) else {
+        return Err("a system out of range".into());
+    };
+    Ok(Opening { system, state })
+}
+
+/// Reads the command line; nothing where help is asked for.
+fn read_request(rt: &LibcRuntime) -> Result<Option<Request>, AnyError> {
+    let args: Vec<String> = env::args(rt)?.collect(rt.alloc())?;
+    let count = args.len();
+    if count == 2 && args[1].as_str() == "--help" {
+        return Ok(None);
+    }
+    let words = count == 4 && args[3].as_str() == "words";
+    if count == 3 || words {
+        let steps = args[1].as_str().parse::<u64>()?;
+        let seed = args[2].as_str().parse::<u64>()?;
+        return Ok(Some(Request { steps, seed, words }));
+    }
+    Err("usage: soak STEPS SEED [words] (soak --help tells more)".into())
+}
+
+/// Makes a turn and tells how long it took.
+fn timed_turn(
+    rt: &LibcRuntime,
+    system: &System,
+    turn: Turn,
+    state: &mut [u64],
+    work: &mut [u64],
+) -> Result<Duration, AnyError> {
+    let start = Instant::now(rt)?;
+    let answer = system.turn(turn, state, work);
+    let time = start.elapsed(rt)?;
+    if answer.is_err() {
+        return Err("the turn was refused".into());
+    }
+    Ok(time)
+}
+
+/// Goes there and back, and tells the sums on the way.
+fn soak(
+    rt: &LibcRuntime,
+    request: &Request,
+    system: &System,
+    state: &mut [u64],
+    work: &mut [u64],
+) -> Result<Duration, AnyError> {
+    let opening = check_sum(state);
+    println!(rt, "opening {opening:016x}")?;
+    let there = timed_turn(rt, system, Turn::Forward(request.steps), state, work)?;
+    if request.words {
+        for word in state.iter() {
+            println!(rt, "{word}")?;
+        }
+    }
+    let middle = check_sum(state);
+    println!(rt, "middle {middle:016x}")?;
+    let back = timed_turn(rt, system, Turn::Back(request.steps), state, work)?;
+    let after = check_sum(state);
+    println!(rt, "after {after:016x}")?;
+    there
+        .checked_add(back)
+        .ok_or("the time is out of range".into())
 }
 
 fn run(rt: &LibcRuntime) -> Result<(), AnyError> {
-    let mut seed = 1;
-    let heap = rt.alloc();
-    let Some(softening) = Softening::new(Softening::LEAST + next(&mut seed) % (Softening::MOST - Softening::LEAST + 1)) else {
-        return Err("softening".into());
+    let Some(request) = read_request(rt)? else {
+        println!(rt, "{HELP}")?;
+        return Ok(());
     };
-    let mut masses = Vec::new(heap);
-    for _ in 0..64 {
-        let Some(m) = mass(&mut seed) else {
-            return Err("mass".into());
-        };
-        masses.push(m)?;
+    let Opening { system, mut state } = random_opening(rt.alloc(), request.seed)?;
+    let opening = state.clone()?;
+    let mut work = vec![in rt.alloc(); 0u64; 2016]?;
+    let time = soak(
+        rt,
+        &request,
+        &system,
+        state.as_mut_slice(),
+        work.as_mut_slice(),
+    )?;
+    if state.as_slice() == opening.as_slice() {
+        println!(rt, "the words of the opening are back")?;
+    } else {
+        println!(rt, "the words of the opening are not back")?;
     }
-    let mut state = Vec::new(heap);
-    for _ in 0..192 {
-        state.push(next(&mut seed))?;
-        state.push(0u64.wrapping_add(next(&mut seed) >> 20))?;
-    }
-    let mut work = vec![in heap; 0u64; 2016]?;
-    let Ok(system) = System::new(softening, masses.as_slice()) else {
-        return Err("system".into());
-    };
-    let start = Instant::now(rt)?;
-    let _ = system.travel(&[Turn::Forward(20000)], state.as_mut_slice(), work.as_mut_slice());
-    let e = start.elapsed(rt)?;
-    let ms = e.as_millis();
-    println!(rt, "{ms} ms")?;
-    let x = state[0];
-    println!(rt, "{x}")?;
+    let milliseconds = time.as_millis();
+    let steps = request.steps.saturating_mul(2);
+    eprintln!(rt, "{steps} steps in {milliseconds} ms")?;
     Ok(())
 }
 

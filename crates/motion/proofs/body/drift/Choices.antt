@@ -11,5 +11,5 @@ abbrev pub Inv-loop-a : given.InvT-loop-a
 Inv-loop-a l =
     ((k : ℕ) → k < 3 → getD (l .words) (2 * k + 1) 0 ≡ getD (l .entry .words) (2 * k + 1) 0)
     × ((k : ℕ) → k < l .a → getD (l .words) (2 * k) 0
-        ≡ moved (l .direction) (getD (l .entry .words) (2 * k) 0) (divided w64 (getD (l .entry .words) (2 * k + 1) 0) (l .mass .value)))
+    ≡ moved (l .direction) (getD (l .entry .words) (2 * k) 0) (divided w64 (getD (l .entry .words) (2 * k + 1) 0) (l .mass .value)))
     × ((k : ℕ) → l .a ≤ k → k < 3 → getD (l .words) (2 * k) 0 ≡ getD (l .entry .words) (2 * k) 0)

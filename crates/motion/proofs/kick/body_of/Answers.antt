@@ -17,7 +17,7 @@ returns c =
     record {
       mass = mass-read (c .args .system .now .masses) _ b _ (c .pre .body) long;
       position = c .position .ensures ∙ (λ i.
-        part-reads (c .args .state .now) b fits 0 (omega arith) i ∷
-        part-reads (c .args .state .now) b fits 2 (omega arith) i ∷
-        part-reads (c .args .state .now) b fits 4 (omega arith) i ∷ []);
+          part-reads (c .args .state .now) b fits 0 (omega arith) i ∷
+          part-reads (c .args .state .now) b fits 2 (omega arith) i ∷
+          part-reads (c .args .state .now) b fits 4 (omega arith) i ∷ []);
     }

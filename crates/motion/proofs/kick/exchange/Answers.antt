@@ -32,10 +32,10 @@ returns c =
     let six : length ys ≡ 6 = search (needs, places) in
     let six′ : length zs ≡ 6 = search (needs, places) in
     let turned : Kicked (opposite (c .args .direction)) (along fs) (between (6 * j) (6 * j + 6) (putMid (6 * i) (6 * i + 6 - 6 * i) xs ys)) zs =
-        subst (λ d. Kicked d (along fs) (between (6 * j) (6 * j + 6) (putMid (6 * i) (6 * i + 6 - 6 * i) xs ys)) zs) (c .opposite .ensures) (c .kick-2 .ensures) in
+    subst (λ d. Kicked d (along fs) (between (6 * j) (6 * j + 6) (putMid (6 * i) (6 * i + 6 - 6 * i) xs ys)) zs) (c .opposite .ensures) (c .kick-2 .ensures) in
     exchanged system (c .args .direction) i j xs ys zs fs (6 * i + 6 - 6 * i) (6 * j + 6 - 6 * j) (c .pre .first) (c .pre .second) (c .pre .state)
     six six′ (omega arith) (omega arith) (c .kick .ensures) turned
     (first-gets system (c .args .direction) i j xs fs _ _ _ _ (c .pre .first) below words (c .body-of-body .ensures .mass) (c .body-of-other .ensures .mass)
-      (c .body-of-body .ensures .position) (c .body-of-other .ensures .position) (c .impulse-on-impulse .ensures .value) (c .impulse-on-impulse .ensures .pair))
+    (c .body-of-body .ensures .position) (c .body-of-other .ensures .position) (c .impulse-on-impulse .ensures .value) (c .impulse-on-impulse .ensures .pair))
     (second-gets system (c .args .direction) i j xs fs _ _ _ _ (c .pre .first) below words (c .body-of-body .ensures .mass) (c .body-of-other .ensures .mass)
-      (c .body-of-body .ensures .position) (c .body-of-other .ensures .position) (c .impulse-on-impulse .ensures .value) (c .impulse-on-impulse .ensures .pair))
+    (c .body-of-body .ensures .position) (c .body-of-other .ensures .position) (c .impulse-on-impulse .ensures .value) (c .impulse-on-impulse .ensures .pair))

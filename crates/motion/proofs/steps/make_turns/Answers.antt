@@ -22,14 +22,14 @@ loop-turn-again c =
     let next = travel-more (step-of system) (back-of system) (c .args .turns .now) (c .loop-turn .turn-index) (Forward 0) in
     let start = state-of (system .count) (c .args .state .now) in
     elim (c .match-turn .came) [
-      in-Forward w ↦ ap (state-of (system .count)) (w .state-is) ∙ w .repeat .ensures ∙ ap (again (step-of system) (w .in-Forward .count)) so-far
-        ∙ sym (next (Forward (w .in-Forward .count)) start (c .loop-turn-test .taken) (w .in-Forward .is))
-    | in-Back w ↦ ap (state-of (system .count)) (w .state-is) ∙ w .repeat-in-Back .ensures ∙ ap (again (back-of system) (w .in-Back .count)) so-far
-        ∙ sym (next (Back (w .in-Back .count)) start (c .loop-turn-test .taken) (w .in-Back .is))
+      | in-Forward w ↦ ap (state-of (system .count)) (w .state-is) ∙ w .repeat .ensures ∙ ap (again (step-of system) (w .in-Forward .count)) so-far
+          ∙ sym (next (Forward (w .in-Forward .count)) start (c .loop-turn-test .taken) (w .in-Forward .is))
+      | in-Back w ↦ ap (state-of (system .count)) (w .state-is) ∙ w .repeat-in-Back .ensures ∙ ap (again (back-of system) (w .in-Back .count)) so-far
+          ∙ sym (next (Back (w .in-Back .count)) start (c .loop-turn-test .taken) (w .in-Back .is))
     ]
 
 pub returns : need.returns
 returns c =
     c .loop-turn .inv
     ∙ ap (λ ts. travel (step-of (c .args .system .now)) (back-of (c .args .system .now)) ts (state-of (c .args .system .now .count) (c .args .state .now)))
-        (take-all (c .loop-turn .turn-index) (c .args .turns .now) (omega arith))
+    (take-all (c .loop-turn .turn-index) (c .args .turns .now) (omega arith))

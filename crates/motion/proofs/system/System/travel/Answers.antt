@@ -23,11 +23,13 @@ returns c =
     let long′ : work-length (system .count) ≤ length (c .args .work .now) = omega arith in
     let six : length ys ≡ 6 * system .count = search (needs, places) in
     let made : state-of (system .count) (ys ++ _) ≡ travel (step-of system) (back-of system) (c .args .turns .now) (state-of (system .count) xs) =
-        state-in-front (system .count) ys _ six ∙ c .make-turns .ensures
-        ∙ ap (travel (step-of system) (back-of system) (c .args .turns .now)) (state-of-front (system .count) xs _ (omega arith)) in
+    state-in-front (system .count) ys _ six ∙ c .make-turns .ensures
+    ∙ ap (travel (step-of system) (back-of system) (c .args .turns .now)) (state-of-front (system .count) xs _ (omega arith)) in
     record {
-      answer = long-enough (system .count) _ _ long long′;
-      state = record { state = made; behind = search (needs, overwrites) };
+      outcome = record {
+        told-so = long-enough (system .count) _ _ long long′;
+        state-left = record { state = made; behind = search (needs, overwrites) };
+        work-left = search (needs, overwrites);
+      };
       timed = timed system _ _ _ made;
-      work = search (needs, overwrites);
     }
