@@ -1,5 +1,6 @@
 pub mod BodyWords
 pub mod Drifts
+pub mod Examples
 pub mod Exchanges
 pub mod Fairness
 pub mod Kicks
@@ -7,5 +8,6 @@ pub mod Lending
 pub mod Masses
 pub mod Rows
 pub mod Sums
+pub mod SystemTheorems
 pub mod Undoing
 pub mod WholeSteps

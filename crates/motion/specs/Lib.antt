@@ -5,5 +5,7 @@ pub mod Memory
 pub mod Outcomes
 pub mod Promises
 pub mod Refusals
+pub mod SystemLaws
 pub mod Systems
 pub mod Travel
+pub mod Worked

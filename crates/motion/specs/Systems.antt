@@ -33,12 +33,19 @@ mass-of system b = getD (map (λ m. m .value) (take (system .count) (system .mas
 abbrev pub system-law : System → Law (Word 64) (Word 64)
 system-law system = law-of (system .softening .value) (mass-of system)
 
+-- a step of n bodies by a softening and the mass of each, and a step back
+abbrev pub step-by : ℕ → (ℕ → ℕ) → ℕ → Words-state → Words-state
+step-by softening mass n = step (words 64) (words 64) (law-of softening mass) n
+
+abbrev pub back-by : ℕ → (ℕ → ℕ) → ℕ → Words-state → Words-state
+back-by softening mass n = step-back (words 64) (words 64) (law-of softening mass) n
+
 -- a step of a system, and a step back
 abbrev pub step-of : System → Words-state → Words-state
-step-of system = step (words 64) (words 64) (system-law system) (system .count)
+step-of system = step-by (system .softening .value) (mass-of system) (system .count)
 
 abbrev pub back-of : System → Words-state → Words-state
-back-of system = step-back (words 64) (words 64) (system-law system) (system .count)
+back-of system = back-by (system .softening .value) (mass-of system) (system .count)
 
 -- a step in either direction
 abbrev pub stepped : Direction → System → Words-state → Words-state
