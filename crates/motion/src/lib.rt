@@ -87,3 +87,70 @@ impl System {
         self.turn(Turn::Back(1), state, work)
     }
 }
+
+#[cfg(test)]
+mod tests {
+    use super::*;
+    use crate::refusal::RefusalDebug;
+    use crate::refusal::RefusalPartialEq;
+    use std::test::*;
+
+    const FAR: u64 = 1 << 60;
+
+    // Bodies of masses 2 and 1, with the least softening.
+    fn pair() -> Option<System> {
+        let masses = [Mass::new(2)?, Mass::new(1)?];
+        System::new(Softening::new(Softening::LEAST)?, &masses).ok()
+    }
+
+    #[test]
+    fn a_pair_goes_there_and_back() -> Result<(), Fail> {
+        let Some(system) = pair() else {
+            return Err(Fail::new("no pair"));
+        };
+        // Two words behind the state, which stay.
+        let mut state = [0, 0, 0, 0, 0, 0, FAR, 0, 0, 0, 0, 0, 8, 9];
+        let mut work = [u64::MAX, 7];
+        system.step(&mut state, &mut work)?;
+        check_eq([state[0], state[1], state[6]], [1023, 2046, FAR - 2046])?;
+        system.turn(Turn::Forward(2), &mut state, &mut work)?;
+        check_eq([state[0], state[1], state[6]], [6138, 6138, FAR - 12276])?;
+        system.step_back(&mut state, &mut work)?;
+        system.travel(&[Turn::Back(4), Turn::Forward(2)], &mut state, &mut work)?;
+        check_eq(state, [0, 0, 0, 0, 0, 0, FAR, 0, 0, 0, 0, 0, 8, 9])?;
+        check_eq(work[1], 7)
+    }
+
+    #[test]
+    fn short_slices_are_refused() -> Result<(), Fail> {
+        let Some(system) = pair() else {
+            return Err(Fail::new("no pair"));
+        };
+        let mut short = [1; 11];
+        let mut state = [1; 12];
+        check_eq(system.step(&mut short, &mut []), Err(Refusal::StateShort))?;
+        check_eq(system.step(&mut state, &mut []), Err(Refusal::WorkShort))?;
+        check_eq(short, [1; 11])?;
+        check_eq(state, [1; 12])
+    }
+
+    fn uniform(count: usize) -> Option<System> {
+        let masses = [Mass::new(1023)?; 65];
+        if count > 65 {
+            return None;
+        }
+        System::new(Softening::new(Softening::MOST)?, &masses[0..count]).ok()
+    }
+
+    #[test]
+    fn systems_have_1_to_64_bodies() -> Result<(), Fail> {
+        check(uniform(0).is_none())?;
+        check(uniform(64).is_some())?;
+        check(uniform(65).is_none())
+    }
+
+    #[test]
+    fn sums_turn_words_by_their_place() -> Result<(), Fail> {
+        check_eq(check_sum(&[1, 1, 1 << 63]), 1 ^ 2 ^ 2)
+    }
+}
