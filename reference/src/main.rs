@@ -1,7 +1,7 @@
 //! A plain implementation of the rules, to compare other programs with.
 //!
 //! `reference STEPS SEED [words]` makes a random system of 64 bodies, goes STEPS steps forward and
-//! STEPS steps back, and prints check sums of the state. Section numbers are those of MODEL.md.
+//! STEPS steps back, and prints check sums of the state. Section numbers are those of docs/MODEL.md.
 //!
 //! Sums and differences of words wrap. The products of section 3 never pass 64 bits, so they are
 //! written with the plain operators, which a debug build (and so `cargo test`) checks.

@@ -142,9 +142,14 @@ fn run(rt: &LibcRuntime) -> Result<(), AnyError> {
     } else {
         println!(rt, "the words of the opening are not back")?;
     }
-    let milliseconds = time.as_millis();
-    let steps = request.steps.saturating_mul(2);
-    eprintln!(rt, "{steps} steps in {milliseconds} ms")?;
+    tell_time(rt, request.steps.saturating_mul(2), time)
+}
+
+/// Tells on standard error how long the steps took, in milliseconds, and each of them, in nanoseconds.
+fn tell_time(rt: &LibcRuntime, steps: u64, time: Duration) -> Result<(), AnyError> {
+    let whole = time.as_millis();
+    let each = time.as_nanos().checked_div(u128::from(steps)).unwrap_or(0);
+    eprintln!(rt, "{steps} steps in {whole} ms, {each} ns a step")?;
     Ok(())
 }
 
