@@ -7,6 +7,7 @@ pub mod Kicks
 pub mod Lending
 pub mod Masses
 pub mod Rows
+pub mod SharedSteps
 pub mod Sums
 pub mod SystemTheorems
 pub mod Undoing

@@ -14,7 +14,7 @@ use impulse::Body;
 use impulse::impulse_on;
 
 /// Gives a body's mass and position.
-fn body_of(system: &System, body: usize, state: &[u64]) -> Body
+pub(crate) fn body_of(system: &System, body: usize, state: &[u64]) -> Body
     requires body { ⌜ body < now system .count ⌝ }
     requires state { ⌜ length (now state) ≡ 6 * now system .count ⌝ }
     ensures mass { λ r. ⌜ r .mass .value ≡ mass-of (now (system .entry)) body ⌝ }

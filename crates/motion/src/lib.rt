@@ -4,10 +4,11 @@ ghost use Prim.Native.Nat.{_<_};
 ghost use mathlib.Core.Logic.{_⊎_};
 ghost use lib.ListN.{length};
 ghost use Rattle.motion.specs.Memory.{state-of};
-ghost use Rattle.motion.specs.Outcomes.{Outcome, Timed};
-ghost use Rattle.motion.specs.Systems.{Made, step-of, back-of};
+ghost use Rattle.motion.specs.Outcomes.{Outcome, Share-outcome, Timed};
+ghost use Rattle.motion.specs.Systems.{Made, step-of, back-of, stepped};
 ghost use Rattle.motion.specs.Travel.{turned, travel as travelled};
 ghost use Rattle.std.specs.Results.{Cases};
+use crate::share::advance_share;
 use crate::steps::make_turns;
 use distance::Softening;
 use words::Mass;
@@ -17,6 +18,7 @@ mod checks;
 mod drift;
 mod kick;
 mod refusal;
+mod share;
 mod steps;
 mod system;
 pub mod theorems;
@@ -24,7 +26,11 @@ mod turn;
 
 pub use checks::check_sum;
 pub use refusal::Refusal;
+pub use refusal::RefusalDebug;
+pub use refusal::RefusalPartialEq;
+pub use share::in_share;
 pub use system::System;
+pub use turn::Direction;
 pub use turn::Turn;
 
 impl System {
@@ -46,6 +52,13 @@ impl System {
             softening,
             masses: all,
         })
+    }
+
+    /// Gives the number of bodies.
+    pub fn count(&self) -> usize
+        ensures { λ r. ⌜ r ≡ now (self .entry) .count ⌝ }
+    {
+        self.count
     }
 
     /// Makes a row of turns. `state` holds the 6 words of each body, `work` a word for each pair of bodies, which may be
@@ -71,6 +84,29 @@ impl System {
         ensures { λ r. ⌜ Outcome (now (self .entry)) (turned (step-of (now (self .entry))) (back-of (now (self .entry))) turn) r (now (state .entry)) (now (state .exit)) (now (work .entry)) (now (work .exit)) ⌝ }
     {
         self.travel(&[turn], state, work)
+    }
+
+    /// Works out a step, or a step back, for the bodies of a share alone. `work` has room for the words of a state, and
+    /// holds the new words of these bodies after it, in their places; those of the other bodies are of no account.
+    pub fn step_share(
+        &self,
+        share: &[bool],
+        direction: Direction,
+        state: &[u64],
+        work: &mut [u64],
+    ) -> Result<(), Refusal>
+        ensures { λ r. ⌜ Share-outcome (now (self .entry)) (stepped direction (now (self .entry))) (now (share .entry)) r (now (state .entry)) (now (work .entry)) (now (work .exit)) ⌝ }
+    {
+        let words = 6 * self.count;
+        if state.len() < words {
+            return Err(Refusal::StateShort);
+        }
+        if work.len() < words {
+            return Err(Refusal::WorkShort);
+        }
+        work[0..words].copy_from_slice(&state[0..words]);
+        advance_share(self, share, direction, &mut work[0..words]);
+        Ok(())
     }
 
     /// Makes a step.

@@ -13,7 +13,7 @@ pub enum Turn {
 
 /// Where time runs to.
 #[derive(Clone, Copy)]
-pub(crate) enum Direction {
+pub enum Direction {
     Ahead,
     Behind,
 }

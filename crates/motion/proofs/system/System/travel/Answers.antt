@@ -27,7 +27,7 @@ returns c =
     ∙ ap (travel (step-of system) (back-of system) (c .args .turns .now)) (state-of-front (system .count) xs _ (omega arith)) in
     record {
       outcome = record {
-        told-so = long-enough (system .count) _ _ long long′;
+        told-so = long-enough _ _ _ _ long long′;
         state-left = record { state = made; behind = search (needs, overwrites) };
         work-left = search (needs, overwrites);
       };
