@@ -1,22 +1,22 @@
 -- The rows of two shares, one behind the other: each body is in one of the two, so each has one row.
 use mathlib.Core.Path.{_≡_, refl, sym, ap, subst, _∙_}
 use mathlib.Core.Bool.{Bool, true, false, cond, not, true≢false}
-use mathlib.Core.List.{List}
+use mathlib.Core.List.{List, _++_, append-nil}
 use mathlib.Core.Logic.{inl, inr}
 use Prim.Native.Nat.{ℕ, _+_, _-_, _*_, _/_, _≤_, _<_}
 use native.Mathlib.Omega.{arith}
 use borrow.Author.Needs.{needs}
-use borrow.Rule.Slice.PartMut.{putMid}
-use lib.ListN.{length, getD, take}
+use borrow.Rule.Slice.PartMut.{putMid, postOf}
+use lib.ListN.{length, getD, take, drop}
 use lib.Seq.{getD-take, length-take-le}
-use Rattle.std.proofs.shelf.Lists.{places}
+use Rattle.std.proofs.shelf.Lists.{places, drop-at, drop-all, drop-drop, take-rest}
 use Rattle.std.proofs.shelf.Ways.{leb-tells}
 use Rattle.motion.specs.Changes.{member}
 use Rattle.motion.specs.Systems.{Words-state}
 use Rattle.shares.specs.Rows.{word-at, row-body, row-momentum, row-position, rows-in, Row-of, Sent, members}
 use Rattle.shares.specs.Taking.{Distinct, Each-once}
 use Rattle.shares.specs.Together.{Rows-of}
-use Rattle.shares.proofs.Members.{members-within, member-at}
+use Rattle.shares.proofs.Members.{members-within, member-at, members-both}
 use Rattle.shares.proofs.Placed.{placed-own, placed-other}
 use Rattle.shares.proofs.Written.{word-moved, word-stays}
 
@@ -153,3 +153,19 @@ gathered-rows n first second s t before one part two sent more left others first
     size = let e = first-sent .size in let f = second-sent .size in
         let l : length (putMid sent left one two) ≡ length one = search (needs, places) in
         length-take-le (sent + more) (putMid sent left one two) (omega arith) ∙ omega arith
+
+-- behind the rows of both nothing has changed
+pub gathered-behind : (n : ℕ) (first second : List Bool) (s t : Words-state) (before one two : List ℕ) (sent more left : ℕ) →
+    ((b : ℕ) → b < n → member second b ≡ not (member first b)) → Sent n first s sent before one → Sent n second t more (take left (drop sent one)) two →
+    left ≡ length one - sent → length two ≡ left → sent ≤ length one → drop (49 * n) (putMid sent left one two) ≡ drop (49 * n) before
+gathered-behind n first second s t before one two sent more left others first-sent second-sent left-is long room =
+    let e = first-sent .size in
+    let f = second-sent .size in
+    let both = members-both first second n others in
+    let sum : 49 * n ≡ sent + more = omega arith in
+    let rest : drop sent (putMid sent left one two) ≡ two =
+    drop-at (take sent one) (two ++ postOf sent left one) sent (length-take-le sent one room)
+    ∙ ap (λ l. two ++ l) (drop-drop left sent one ∙ drop-all (sent + left) one (omega arith)) ∙ append-nil two in
+    ap (λ k. drop k (putMid sent left one two)) sum ∙ sym (drop-drop more sent (putMid sent left one two)) ∙ ap (drop more) rest
+    ∙ second-sent .behind ∙ ap (λ m. drop more (take m (drop sent one))) left-is ∙ ap (drop more) (take-rest one sent ∙ first-sent .behind)
+    ∙ drop-drop more sent before ∙ ap (λ k. drop k before) (sym sum)

@@ -50,6 +50,11 @@ pub record Shared (system : System) (shared : SharedStep) (first first-after sec
   pub first-behind : drop (state-length (system .count)) first-after ≡ drop (state-length (system .count)) first
   pub second-behind : drop (state-length (system .count)) second-after ≡ drop (state-length (system .count)) second
 
+-- What lies behind the words of work and behind the bytes of rows that n bodies need is as it was.
+pub record Room-left (n : ℕ) (work work-after rows rows-after : List ℕ) : Type 0 where
+  pub work-behind : drop (state-length n) work-after ≡ drop (state-length n) work
+  pub rows-behind : drop (49 * n) rows-after ≡ drop (49 * n) rows
+
 -- the states that the two hold in memory
 abbrev pub two-of : ℕ → List ℕ → List ℕ → Two
 two-of n first second = record { first = state-of n first; second = state-of n second }

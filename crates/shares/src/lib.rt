@@ -7,7 +7,7 @@ ghost use Rattle.motion.specs.Refusals.{told};
 ghost use Rattle.motion.specs.Systems.{stepped};
 ghost use Rattle.shares.specs.Rows.{Sent, sending};
 ghost use Rattle.shares.specs.Taking.{Taken, taking};
-ghost use Rattle.shares.specs.Together.{Together, Shared, Rows-of, merged, lent-together};
+ghost use Rattle.shares.specs.Together.{Together, Shared, Room-left, Rows-of, merged, lent-together};
 ghost use Rattle.std.specs.Results.{Cases};
 use crate::rows::ROW;
 use crate::rows::complement;
@@ -89,6 +89,7 @@ pub fn together(
 ) -> Result<(), Refusal>
     ensures answer { λ r. ⌜ told r ≡ lent-together (now (system .entry) .count) (length (now (first .entry))) (length (now (second .entry))) (length (now (work .entry))) (length (now (rows .entry))) ⌝ }
     ensures states { λ r. ⌜ Cases r (λ _. Together (now (system .entry)) (now (steps .entry)) (now (first .entry)) (now (first .exit)) (now (second .entry)) (now (second .exit))) (λ _. (now (first .exit) ≡ now (first .entry)) × (now (second .exit) ≡ now (second .entry))) ⌝ }
+    ensures room { λ r. ⌜ Cases r (λ _. Room-left (now (system .entry) .count) (now (work .entry)) (now (work .exit)) (now (rows .entry)) (now (rows .exit))) (λ _. (now (work .exit) ≡ now (work .entry)) × (now (rows .exit) ≡ now (rows .entry))) ⌝ }
 {
     let count = system.count();
     if first.len() < 6 * count {
@@ -122,7 +123,8 @@ fn share_step(
     requires second { ⌜ 6 * now system .count ≤ length (now second) ⌝ }
     requires work { ⌜ 6 * now system .count ≤ length (now work) ⌝ }
     requires rows { ⌜ 49 * now system .count ≤ length (now rows) ⌝ }
-    ensures { λ r. ⌜ Cases r (λ _. Shared (now (system .entry)) shared (now (first .entry)) (now (first .exit)) (now (second .entry)) (now (second .exit))) (λ _. ⊥) ⌝ }
+    ensures states { λ r. ⌜ Cases r (λ _. Shared (now (system .entry)) shared (now (first .entry)) (now (first .exit)) (now (second .entry)) (now (second .exit))) (λ _. ⊥) ⌝ }
+    ensures room { λ r. ⌜ Cases r (λ _. Room-left (now (system .entry) .count) (now (work .entry)) (now (work .exit)) (now (rows .entry)) (now (rows .exit))) (λ _. ⊥) ⌝ }
 {
     let size = gather(system, shared, first, second, work, rows)?;
     take_in(system, &rows[0..size], first)?;
@@ -143,7 +145,8 @@ fn gather(
     requires second { ⌜ 6 * now system .count ≤ length (now second) ⌝ }
     requires work { ⌜ 6 * now system .count ≤ length (now work) ⌝ }
     requires rows { ⌜ 49 * now system .count ≤ length (now rows) ⌝ }
-    ensures { λ r. ⌜ Cases r (λ size. (size ≤ length (now (rows .exit))) × Rows-of (now (system .entry) .count) (merged (now (system .entry)) shared (state-of (now (system .entry) .count) (now (first .entry))) (state-of (now (system .entry) .count) (now (second .entry)))) (take size (now (rows .exit)))) (λ _. ⊥) ⌝ }
+    ensures rows { λ r. ⌜ Cases r (λ size. (size ≤ length (now (rows .exit))) × Rows-of (now (system .entry) .count) (merged (now (system .entry)) shared (state-of (now (system .entry) .count) (now (first .entry))) (state-of (now (system .entry) .count) (now (second .entry)))) (take size (now (rows .exit)))) (λ _. ⊥) ⌝ }
+    ensures room { λ r. ⌜ Cases r (λ _. Room-left (now (system .entry) .count) (now (work .entry)) (now (work .exit)) (now (rows .entry)) (now (rows .exit))) (λ _. ⊥) ⌝ }
 {
     let share = shared.first;
     let mut others = [false; 64];

@@ -1,5 +1,5 @@
 -- There is room for all rows, so nothing is refused; and each body has one of them.
-use mathlib.Core.Path.{_≡_, refl}
+use mathlib.Core.Path.{_≡_, refl, _∙_}
 use mathlib.Core.Bool.{not}
 use Prim.Native.Nat.{ℕ, _+_, _-_, _*_, _≤_, _<_}
 use native.Mathlib.Omega.{arith}
@@ -10,7 +10,7 @@ use Rattle.std.proofs.shelf.Lists.{places}
 use Rattle.motion.specs.Changes.{member}
 use Rattle.shares.specs.Rows.{members}
 use Rattle.shares.proofs.Accepted.{never}
-use Rattle.shares.proofs.Joined.{gathered-rows}
+use Rattle.shares.proofs.Joined.{gathered-rows, gathered-behind}
 use Rattle.shares.proofs.Members.{members-most, members-both}
 use Rattle.shares.proofs.SentRows.{sending-all}
 use Rattle.shares.proofs.gather.Needs as need
@@ -53,4 +53,10 @@ returns c =
     let kept : length (c .work-out .last .rows) ≡ length (c .args .rows .now) = search needs in
     let room : c .in-Continue-sent .sent + c .in-Continue-more .more ≤ length (c .work-out .last .rows) = omega arith in
     let whole : length (putMid (c .in-Continue-sent .sent) (length (c .work-out .last .rows) - c .in-Continue-sent .sent) (c .work-out .last .rows) (c .work-out-2 .last .rows)) ≡ length (c .work-out .last .rows) = search (needs, places) in
-    (omega arith, gathered-rows n share rest _ _ _ _ _ _ _ _ _ others one two refl long room)
+    record {
+      rows = (omega arith, gathered-rows n share rest _ _ _ _ _ _ _ _ _ others one two refl long room);
+      room = record {
+        work-behind = c .in-Continue-more .ensures tt .work ∙ c .in-Continue-sent .ensures tt .work;
+        rows-behind = gathered-behind n share rest _ _ (c .args .rows .now) (c .work-out .last .rows) (c .work-out-2 .last .rows) _ _ _ others one two refl long (omega arith);
+      };
+    }

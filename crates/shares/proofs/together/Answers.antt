@@ -13,7 +13,7 @@ use Rattle.shares.proofs.Merging.{together-none, together-more, together-alone
 use Rattle.shares.proofs.together.Needs as need
 
 pub loop-step-holds : need.loop-step-holds
-loop-step-holds c = (sym (together-none _ _), refl, refl)
+loop-step-holds c = (sym (together-none _ _), refl, refl, record { work-behind = refl; rows-behind = refl })
 
 pub loop-step-again : need.loop-step-again
 loop-step-again c =
@@ -21,7 +21,8 @@ loop-step-again c =
     let n = system .count in
     let none : SharedStep = record { direction = Ahead; first = [] } in
     let shared = getD (c .args .steps .now) (c .loop-step .step-index) none in
-    let made = c .in-Continue-share-step .ensures tt in
+    let made = c .in-Continue-share-step .ensures tt .states in
+    let left = c .in-Continue-share-step .ensures tt .room in
     let start = two-of n (c .args .first .now) (c .args .second .now) in
     let one : two-of n (c .share-step .last .first) (c .share-step .last .second)
     ≡ record {
@@ -34,6 +35,10 @@ loop-step-again c =
           ∙ sym (together-more system (c .args .steps .now) (c .loop-step .step-index) none start (c .loop-step-test .taken)),
       made .first-behind ∙ c .loop-step .inv .1,
       made .second-behind ∙ c .loop-step .inv .2,
+      record {
+        work-behind = left .work-behind ∙ c .loop-step .inv .3 .work-behind;
+        rows-behind = left .rows-behind ∙ c .loop-step .inv .3 .rows-behind;
+      },
     )
 
 pub returns : need.returns
@@ -53,4 +58,5 @@ returns c =
         first-behind = c .loop-step .inv .1;
         second-behind = c .loop-step .inv .2;
       };
+      room = c .loop-step .inv .3;
     }
