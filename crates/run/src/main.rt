@@ -27,13 +27,20 @@ fn pair() -> Option<System> {
     System::new(Softening::new(Softening::LEAST)?, &masses).ok()
 }
 
+fn read_number(text: &str) -> Result<u32, AnyError> {
+    let Ok(number) = text.parse::<u32>() else {
+        return Err("a number is wanted, 0 to 4294967295; run --help tells more".into());
+    };
+    Ok(number)
+}
+
 /// Reads the call that stands first, and tells how many words it has.
 fn read_call(args: &[String]) -> Result<(Call, usize), AnyError> {
     if args.len() < 2 {
         return Err("a call has a word and a number; run --help tells more".into());
     }
     let word = args[0].as_str();
-    let number = args[1].as_str().parse::<u32>()?;
+    let number = read_number(args[1].as_str())?;
     if word == "forward" {
         return Ok((Call::Forward(number), 2));
     }
@@ -41,8 +48,8 @@ fn read_call(args: &[String]) -> Result<(Call, usize), AnyError> {
         return Ok((Call::Back(number), 2));
     }
     if word == "read" && args.len() > 2 {
-        let axis = args[2].as_str().parse::<usize>()?;
-        return Ok((Call::Read(number as usize, axis), 3));
+        let axis = read_number(args[2].as_str())?;
+        return Ok((Call::Read(number as usize, axis as usize), 3));
     }
     Err("not a call: run --help tells which there are".into())
 }

@@ -63,6 +63,13 @@ fn random_opening(heap: Global, mut seed: u64) -> Result<Opening, AnyError> {
     Ok(Opening { system, state })
 }
 
+fn read_number(text: &str) -> Result<u64, AnyError> {
+    let Ok(number) = text.parse::<u64>() else {
+        return Err("STEPS and SEED are numbers below 2^64 (soak --help tells more)".into());
+    };
+    Ok(number)
+}
+
 /// Reads the command line; nothing where help is asked for.
 fn read_request(rt: &LibcRuntime) -> Result<Option<Request>, AnyError> {
     let args: Vec<String> = env::args(rt)?.collect(rt.alloc())?;
@@ -72,8 +79,8 @@ fn read_request(rt: &LibcRuntime) -> Result<Option<Request>, AnyError> {
     }
     let words = count == 4 && args[3].as_str() == "words";
     if count == 3 || words {
-        let steps = args[1].as_str().parse::<u64>()?;
-        let seed = args[2].as_str().parse::<u64>()?;
+        let steps = read_number(args[1].as_str())?;
+        let seed = read_number(args[2].as_str())?;
         return Ok(Some(Request { steps, seed, words }));
     }
     Err("usage: soak STEPS SEED [words] (soak --help tells more)".into())
