@@ -1,7 +1,7 @@
 -- Checkpoints in memory: a write under one number is read back there, and all others stay.
 use Rattle.std.proofs.Common.{◌≡◌, ℕ, suc, ◌+◌, ◌-◌, ◌*◌, ◌<◌, ◌≤◌, cond, eqb, ◌⊎◌, List, [], ◌∷◌, ◌++◌, length, get_or, take, drop, set, ℤ, Some, None, sym, refl, ap, ◌∙◌, inl, inr, add-zero, add_assoc, mul-le-mul_right, zero-add, arith, w64, SFits, of_z, rules, lt-ltb}
 use borrow.Rule.Slice.PartMut.{put_mid}
-use Rattle.std.proofs.lemmas.List.{places, append-nil, drop_all, drop-drop, get_or-drop, get_or-take, length-take_le}
+use Rattle.std.proofs.lemmas.List.{places, append-nil, drop_all, drop-drop, get_or-drop, get_or-take, length-take-le}
 use Rattle.std.proofs.lemmas.Slice.{drop-put_mid}
 use Rattle.std.proofs.lemmas.Int.{to_z-of_z}
 use Rattle.std.proofs.lemmas.Bool.Decides.{eqb_tells, leb_tells}
@@ -72,7 +72,7 @@ pub kept_behind : (n c : ℕ) (t : ℤ) (state xs : List ℕ) → c < 16 → 6 *
 kept_behind n c t state xs number front room =
     let size = checkpoint_length n in
     let within = room_for c size (checkpoints_length n) number (omega arith) in
-    let long = length-take_le (6 * n) state front in
+    let long = length-take-le (6 * n) state front in
     ap (drop (checkpoints_length n)) (sym (part_between (c * size) size size xs (1 ∷ of_z w64 t ∷ take (6 * n) state) _ refl refl))
     ∙ drop-put_mid (c * size) size xs (1 ∷ of_z w64 t ∷ take (6 * n) state) (checkpoints_length n) (omega arith) (omega arith) (omega arith)
 
@@ -83,7 +83,7 @@ module _ (n c : ℕ) (t : ℤ) (state xs : List ℕ) (number : c < 16) (fits : S
 
   written_long : length written ≡ checkpoint_length n
   unfolding written
-  written_long = let e = length-take_le (6 * n) state front in omega arith
+  written_long = let e = length-take-le (6 * n) state front in omega arith
 
   within : (d : ℕ) → d < 16 → d * checkpoint_length n + checkpoint_length n ≤ length xs
   within d h = room_for d (checkpoint_length n) (length xs) h room

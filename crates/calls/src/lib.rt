@@ -1,4 +1,7 @@
 //! Calls: a system in bytes, the calls of the operator, checkpoints, and whole rows of calls.
+
+#![tactic(auto)]
+
 mod answer;
 mod call;
 mod checkpoints;

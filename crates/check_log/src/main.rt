@@ -1,4 +1,7 @@
 //! Checks a log, and tells whether it is accepted.
+
+#![tactic(auto)]
+
 use anyhow::anyhow;
 use input::{Words, behind_first, read_input};
 use logs::check_log;

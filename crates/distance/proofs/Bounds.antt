@@ -1,8 +1,7 @@
 -- The bounds of separations, squared distance, root and weight, each from the one before.
-use Rattle.std.proofs.Common.{◌≡◌, ℕ, ◌+◌, ◌-◌, ◌*◌, ◌/◌, ◌^◌, ◌<◌, ◌≤◌, arith, w64}
+use Rattle.std.proofs.Common.{ℕ, ◌+◌, ◌-◌, ◌*◌, ◌^◌, ◌<◌, ◌≤◌, arith}
 use Rattle.std.proofs.lemmas.Nat.{mul-le, div_below, le-div}
 use Rattle.std.proofs.lemmas.Int.{ints}
-use Rattle.words.specs.Signed.{size}
 use Rattle.distance.specs.Distance.{separation, squared_distance, weight, Bounded}
 use Rattle.distance.specs.Root.{WholeRoot, whole_root}
 use Rattle.distance.proofs.Roots.{root_least, whole_root_whole}

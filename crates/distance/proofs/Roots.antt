@@ -1,6 +1,6 @@
 -- The whole root: the definition is the largest whole number whose square is at most q, there is only one, and a step of
 -- Newton's method never falls below it. Squares are compared by products of ordered factors.
-use Rattle.std.proofs.Common.{◌≡◌, ℕ, zero, suc, ◌+◌, ◌-◌, ◌*◌, ◌/◌, ◌^◌, ◌<◌, ◌≤◌, true, false, cond, leb, ◌⊎◌, sym, refl, ap, subst, inl, inr, mul_assoc, mul_comm, add-mul, mul-le-mul, le_antisymm, pow-suc, mul-add, arith}
+use Rattle.std.proofs.Common.{◌≡◌, ℕ, zero, suc, ◌+◌, ◌-◌, ◌*◌, ◌/◌, ◌^◌, ◌<◌, ◌≤◌, inl, inr, le_antisymm, pow-suc, arith}
 use native.Mathlib.Nat.{lt-mul-div-succ}
 use Rattle.std.proofs.lemmas.Nat.{mul-le, div_below}
 use Rattle.std.proofs.lemmas.Bool.Decides.{leb_tells}

@@ -1,4 +1,7 @@
 //! The distance of two bodies: separations on the axes, the squared distance, its whole root and its weight.
+
+#![tactic(auto)]
+
 ghost use Rattle.std.specs.Prelude.{◌≡◌, ℕ, ◌+◌, ◌*◌, ◌^◌, ◌<◌, ◌≤◌};
 ghost use Rattle.distance.specs.Axes.{by_axis, along};
 ghost use Rattle.distance.specs.Distance.{separation as separationOf, squared_distance, weight as weightOf, Bounded};

@@ -1,6 +1,6 @@
 -- The impulses of two bodies cancel, since the way back is the opposite word, of the same size; and they stay small, since
 -- separation and weight do.
-use Rattle.std.proofs.Common.{◌≡◌, ℕ, ◌+◌, ◌-◌, ◌*◌, ◌/◌, ◌%◌, ◌^◌, ◌<◌, ◌≤◌, cond, eqb, ltb, List, sym, refl, ap, ◌∙◌, mod-lt, mul_comm, mul-zero, zero-mul, arith, pow_pos, w64}
+use Rattle.std.proofs.Common.{◌≡◌, ℕ, ◌*◌, ◌/◌, ◌^◌, ◌<◌, ◌≤◌, List, refl, ap, ◌∙◌, mod-lt, mul_comm, mul-zero, zero-mul, arith, pow_pos, w64}
 use Rattle.std.proofs.lemmas.Nat.{mul-le}
 use Rattle.std.proofs.lemmas.Int.{ints}
 use Rattle.std.proofs.lemmas.Bool.Decides.{nat_tests}

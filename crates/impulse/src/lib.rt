@@ -1,4 +1,7 @@
 //! The impulse that one body gives another in a step, on all three axes.
+
+#![tactic(auto)]
+
 ghost use Rattle.std.specs.Prelude.{◌≡◌, ℕ, ◌*◌, ◌/◌, ◌^◌, ◌<◌, ◌≤◌};
 ghost use Rattle.distance.specs.Axes.{by_axis, along};
 ghost use Rattle.distance.specs.Distance.{squared_distance};

@@ -1,4 +1,7 @@
 //! What the programs share: reading their input, and the words that they lend.
+
+#![tactic(auto)]
+
 ghost use Rattle.std.specs.Prelude.{◌≡◌, drop, IfOk, vec_len};
 
 use anyhow::anyhow;

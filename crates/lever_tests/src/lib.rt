@@ -1,5 +1,8 @@
 //! Tests of the library `calls`: every refusal at its place, the limits that are taken, random rows of calls, calls in bytes,
 //! and the worked pair. A time out of range, refusal 7, is left to the proof: a row of calls that comes to it makes 2^63 steps.
+
+#![tactic(auto)]
+
 #[cfg(test)]
 mod bad_calls;
 #[cfg(test)]

@@ -1,7 +1,7 @@
 -- The bytes decide what is told: the log of some calls is accepted, and the first wrong stamp is told at its call.
 use Rattle.std.proofs.Common.{◌≡◌, ℕ, zero, suc, ◌+◌, ◌-◌, ◌<◌, ◌≤◌, Bool, true, false, cond, ◌⊎◌, List, [], ◌∷◌, ◌++◌, length, get_or, take, drop, sym, refl, ap, ◌∙◌, inl, inr, append_assoc, add-zero, arith, le-ltb}
 use borrow.Author.Tests.{lt-leb}
-use Rattle.std.proofs.lemmas.List.{drop_at, drop-drop, get_or-drop, take_at, take-append-drop, length-append, length-drop, length-take_le}
+use Rattle.std.proofs.lemmas.List.{drop_at, drop-drop, get_or-drop, take_at, take-append-drop, length-append, length-drop, length-take-le}
 use Rattle.std.specs.List.{AllByRecursion as All}
 use Rattle.words.specs.Bytes.{bytes_of}
 use Rattle.words.proofs.InBytes.{length-bytes_of}
@@ -40,7 +40,7 @@ module _ (rules : Rules) (bytes : List ℕ) (m : Machine) (k at : ℕ) (inside :
     parts = sym (take-append-drop at bytes) ∙ ap (λ l. take at bytes ++ l) e ∙ sym (append_assoc (take at bytes) (bytes_of_call call) rest)
 
     there_call : call_at bytes k at ≡ good call
-    there_call = (λ i. call_at (parts i) k (sym (length-take_le at bytes inside) i)) ∙ written_call (take at bytes) rest call (fits call can) k
+    there_call = (λ i. call_at (parts i) k (sym (length-take-le at bytes inside) i)) ∙ written_call (take at bytes) rest call (fits call can) k
 
     sized : length bytes ≡ at + size_of call + length rest
     sized = let a = ap length e in let b = length-append (bytes_of_call call) rest in let c = left in omega arith

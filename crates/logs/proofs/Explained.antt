@@ -1,7 +1,7 @@
 -- What is told of a log explains its bytes: an accepted one is the log of some calls, and a time or check sum that is told to
 -- be wrong is the first that is.
 use Rattle.std.proofs.Common.{◌≡◌, ℕ, zero, suc, ◌+◌, ◌<◌, ◌≤◌, Bool, true, false, cond, ◌⊎◌, List, [], ◌∷◌, ◌++◌, length, get_or, take, drop, Some, None, sym, refl, ap, ◌∙◌, subst, inl, inr, append_assoc, add-zero, arith, eq-eqb, ne_eqb}
-use Rattle.std.proofs.lemmas.List.{drop_all, drop-drop, drop_more, take-append-drop, length-take_le, length-drop}
+use Rattle.std.proofs.lemmas.List.{drop_all, drop-drop, drop_more, take-append-drop, length-take-le, length-drop}
 use Rattle.std.proofs.lemmas.Bool.Decides.{leb_tells}
 use Rattle.std.specs.List.{AllByRecursion as All}
 use Rattle.words.specs.Bytes.{number_at}
@@ -121,7 +121,7 @@ module _ (rules : Rules) (bytes : List ℕ) where
           many = add-zero k;
           writable = (writable_call at call read, tt);
           answered = ((answer, said), tt);
-          long = let left = length-drop end bytes in length-take_le 16 (drop end bytes) (omega arith);
+          long = let left = length-drop end bytes in length-take-le 16 (drop end bytes) (omega arith);
           bytes_are = call_front ∙ ap (λ l. bytes_of_call call ++ l) stamp_front;
           differs = λ e. let z : ◌≡◌ {A = ℕ} 0 1 = ap (λ b. cond b 1 0) (sym differs ∙ stamp_passes rules.count bytes after end e) in omega arith;
         }

@@ -1,7 +1,7 @@
 -- The check sum of the words in memory is that of the state that they hold, word by word.
 use Rattle.std.proofs.Common.{◌≡◌, ℕ, zero, suc, ◌+◌, ◌*◌, ◌/◌, ◌%◌, ◌^◌, ◌<◌, ◌≤◌, true, List, length, get_or, take, sym, refl, ap, ◌∙◌, inl, inr, mod-eq_of_lt, arith, lt-ltb}
 use lib.Bits.{bit_xor}
-use Rattle.std.proofs.lemmas.List.{get_or-take, length-take_le}
+use Rattle.std.proofs.lemmas.List.{get_or-take, length-take-le}
 use Rattle.std.proofs.lemmas.Bool.Decides.{eqb_tells}
 use Rattle.motion.specs.Checks.{turned_left, check_below, check_sum}
 use Rattle.motion.specs.Memory.{state_of, position_at, momentum_at, inside, held}
@@ -41,5 +41,5 @@ module _ (n : ℕ) (xs : List ℕ) (words : (k : ℕ) → get_or xs k 0 < 2 ^ 64
 
   pub state_sum_same : (m : ℕ) → m ≡ 6 * n → 6 * n ≤ length xs → check_sum (take m xs) ≡ state_sum n (state_of n xs)
   state_sum_same m e room =
-      let long : length (take m xs) ≡ 6 * n = length-take_le m xs (omega arith) ∙ e in
+      let long : length (take m xs) ≡ 6 * n = length-take-le m xs (omega arith) ∙ e in
       ap (check_below (take m xs)) long ∙ sum_same m (6 * n) e (omega arith)

@@ -1,6 +1,6 @@
 -- A log that was written is a log: it begins with the system, and goes on with the log of the calls that were made.
 use Rattle.std.proofs.Common.{◌≡◌, ℕ, ◌+◌, ◌<◌, ◌≤◌, List, ◌++◌, length, get_or, take, drop, sym, ap, ◌∙◌, arith}
-use Rattle.std.proofs.lemmas.List.{drop_at, get_or_append_left, get_or-take, length-append, length-take_le}
+use Rattle.std.proofs.lemmas.List.{drop_at, get_or_append_left, get_or-take, length-append, length-take-le}
 use Rattle.motion.specs.Refusals.{good}
 use Rattle.calls.specs.SystemBytes.{body_at, count_in, rules_in, machine_in, system_told}
 use Rattle.calls.proofs.SameSystem.{count_same, rules_same, machine_same, taken_same}
@@ -15,7 +15,7 @@ module _ (bytes : List ℕ) (small : (j : ℕ) → get_or bytes j 0 < 256) (take
   room = (taken_valid bytes taken).room
 
   front : length (take (body_at (count_in bytes)) bytes) ≡ body_at (count_in bytes)
-  front = length-take_le (body_at (count_in bytes)) bytes room
+  front = length-take-le (body_at (count_in bytes)) bytes room
 
   same : (j : ℕ) → j < body_at (count_in bytes) → get_or log j 0 ≡ get_or bytes j 0
   same j h =

@@ -1,4 +1,7 @@
 //! Logs: each call with the time and the check sum that it led to, written and checked.
+
+#![tactic(auto)]
+
 mod checking;
 mod writing;
 

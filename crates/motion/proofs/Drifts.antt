@@ -1,11 +1,10 @@
 -- Bodies that move one after the other: each write changes the positions of one body.
-use Rattle.std.proofs.Common.{◌≡◌, ℕ, ◌+◌, ◌*◌, ◌<◌, ◌≤◌, Bool, true, false, List, length, get_or, sym, refl, ap, ◌∙◌, inl, inr, true≢false, arith, w64}
+use Rattle.std.proofs.Common.{◌≡◌, ℕ, ◌+◌, ◌*◌, ◌<◌, ◌≤◌, Bool, false, List, length, sym, refl, ap, ◌∙◌, inl, inr, true≢false, arith, w64}
 use borrow.Rule.Slice.PartMut.{put_mid}
 use Rattle.std.specs.List.{between}
 use Rattle.std.proofs.lemmas.Bool.Decides.{eqb_tells}
 use Rattle.words.specs.Signed.{divided}
 use Rattle.motion.specs.Changes.{moved, Drifted, AllDrifted}
-use Rattle.motion.specs.Memory.{position_at, momentum_at}
 use Rattle.motion.specs.Systems.{mass_of}
 use Rattle.motion.specs.declared.system.System.{System}
 use Rattle.motion.specs.declared.turn.Direction.{Direction}

@@ -1,16 +1,16 @@
 -- Two bodies that give each other an impulse: what the code adds to one and takes from the other is what the law gives to each.
-use Rattle.std.proofs.Common.{◌≡◌, ℕ, zero, suc, ◌+◌, ◌-◌, ◌*◌, ◌%◌, ◌^◌, ◌<◌, ◌≤◌, true, cond, ltb, List, length, get_or, sym, refl, ap, ◌∙◌, inl, inr, mod-eq_of_lt, arith, rules, le-ltb, lt-ltb}
+use Rattle.std.proofs.Common.{◌≡◌, ℕ, zero, suc, ◌+◌, ◌*◌, ◌%◌, ◌^◌, ◌<◌, ◌≤◌, List, length, get_or, sym, refl, ap, ◌∙◌, inl, inr, mod-eq_of_lt, arith, rules, le-ltb, lt-ltb}
 use mathlib.Core.Path.{transport}
 use borrow.Rule.Slice.PartMut.{put_mid}
 use Rattle.std.specs.List.{between}
 use Rattle.std.proofs.lemmas.List.{places}
 use Rattle.std.proofs.lemmas.Bool.Decides.{eqb_tells}
-use Rattle.words.specs.Words.{plus, less}
+use Rattle.words.specs.Words.{plus}
 use Rattle.distance.specs.Axes.{by_axis, along}
 use Rattle.distance.proofs.Axis.{along_by_axis}
 use Rattle.impulse.specs.Impulse.{impulse, PairOfImpulses}
 use Rattle.motion.specs.Changes.{moved, opposite, Kicked, Exchanged, impulse_at}
-use Rattle.motion.specs.Memory.{state_of, position_at, momentum_at, inside}
+use Rattle.motion.specs.Memory.{state_of, position_at}
 use Rattle.motion.specs.Systems.{mass_of}
 use Rattle.motion.proofs.BodyWords.{part_reads, own_part, other_part}
 use Rattle.motion.specs.declared.system.System.{System}

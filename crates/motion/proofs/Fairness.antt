@@ -1,13 +1,12 @@
 -- The law of a system is fair, since the impulses of a pair cancel; so the theory of rows and sums holds of every system.
-use Rattle.std.proofs.Common.{◌≡◌, ℕ, ◌+◌, ◌%◌, ◌^◌, ◌<◌, ◌≤◌, List, sym, refl, ap, ◌∙◌, subst, arith}
-use Rattle.words.specs.Words.{Word, word, words, plus}
+use Rattle.std.proofs.Common.{◌≡◌, ℕ, ◌^◌, ◌≤◌, List, refl, ap, ◌∙◌, arith}
+use Rattle.words.specs.Words.{word, words, plus}
 use Rattle.words.proofs.Wrapping.{same_word, words_lawful}
-use Rattle.impulse.specs.Impulse.{impulse}
 use Rattle.impulse.proofs.Pairs.{pair_of_impulses, impulse_level}
 use Rattle.motion.specs.Bodies.{Fair, total_momentum}
 use Rattle.motion.specs.Outcomes.{Timed}
 use Rattle.motion.specs.Systems.{WordsState, law_of, system_law, mass_of, step_of, back_of}
-use Rattle.motion.specs.Travel.{Undone, TimeDecides, travel}
+use Rattle.motion.specs.Travel.{Undone, travel}
 use Rattle.motion.specs.declared.system.System.{System}
 use Rattle.motion.specs.declared.turn.Turn.{Turn}
 use Rattle.motion.proofs.Masses.{mass_light}

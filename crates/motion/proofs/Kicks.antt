@@ -1,5 +1,5 @@
 -- Rows of exchanges add up: each body meets the others in ascending order, so the sum by its definition is met term by term.
-use Rattle.std.proofs.Common.{◌≡◌, ℕ, zero, suc, ◌+◌, ◌-◌, ◌*◌, ◌%◌, ◌^◌, ◌<◌, ◌≤◌, true, false, cond, ltb, leb, List, get_or, sym, refl, ap, ◌∙◌, inl, inr, arith, le-ltb, lt-ltb}
+use Rattle.std.proofs.Common.{◌≡◌, ℕ, suc, ◌+◌, ◌-◌, ◌*◌, ◌%◌, ◌^◌, ◌<◌, ◌≤◌, cond, List, get_or, sym, refl, ap, ◌∙◌, inl, inr, arith}
 use Rattle.std.proofs.lemmas.Nat.{mul-le}
 use Rattle.std.proofs.lemmas.Bool.Decides.{leb_tells, eqb_tells}
 use Rattle.words.specs.Words.{Word, word, words}
@@ -96,7 +96,7 @@ row_more system direction i j xs ys zs second row one =
         | inr t ↦ one.others b (omega arith) t.1 a k ∙ row.done b (omega arith) a k
       ];
       own = λ a k.
-          one.first a k ∙ (λ l. moved direction (row.own_val a k l) (stays a i j l))
+          one.first a k ∙ (λ l. moved direction (row.own a k l) (stays a i j l))
           ∙ moved_more direction _ _ _ (gathered_word system xs a i j) (impulse_word system xs a i j)
           ∙ ap (moved direction (momentum_at xs i a)) (sym (gathered_more system xs a i j));
       rest = λ b h ne a k. one.others b ne (omega arith) a k ∙ row.rest b (omega arith) ne a k;
@@ -115,7 +115,7 @@ kicked_more system direction i xs ys zs all row =
     record {
       positions = λ b a h. row.positions b a h ∙ all.positions b a h;
       done = λ b h a k. elim (eqb_tells b i) [
-        | inl t ↦ rw t.1 (row.own_val a k ∙ (λ l. moved direction (all.rest i (omega arith) a k l) ((sums a i i ∙ gathered_own system xs a i) l)))
+        | inl t ↦ rw t.1 (row.own a k ∙ (λ l. moved direction (all.rest i (omega arith) a k l) ((sums a i i ∙ gathered_own system xs a i) l)))
         | inr t ↦ row.done b (omega arith) a k ∙ (λ l. moved direction (all.done b (omega arith) a k l) (stays a b i l))
             ∙ moved_more direction _ _ _ (gathered_word system xs a b i) (impulse_word system xs a b i)
             ∙ ap (moved direction (momentum_at xs b a)) (sym (gathered_more system xs a b i))

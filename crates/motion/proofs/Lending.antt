@@ -1,5 +1,5 @@
 -- A state cut off the front of a longer slice: it is the state of the whole slice, and what lies behind stays.
-use Rattle.std.proofs.Common.{◌≡◌, ℕ, ◌+◌, ◌*◌, ◌<◌, ◌≤◌, Bool, List, ◌++◌, length, get_or, take, drop, sym, refl, ap, ◌∙◌, arith, get_or-take, rules, le-ltb}
+use Rattle.std.proofs.Common.{◌≡◌, ℕ, ◌+◌, ◌*◌, ◌<◌, ◌≤◌, Bool, List, ◌++◌, length, get_or, take, refl, ap, ◌∙◌, arith, get_or-take, rules, le-ltb}
 use Rattle.std.proofs.lemmas.List.{places}
 use Rattle.motion.specs.Changes.{ShareHolds}
 use Rattle.motion.specs.Systems.{WordsState}

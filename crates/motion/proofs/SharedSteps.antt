@@ -1,11 +1,11 @@
 -- Steps of a share: one body after the other gets its impulses and moves, as in a step of all.
-use Rattle.std.proofs.Common.{◌≡◌, ℕ, ◌+◌, ◌*◌, ◌^◌, ◌<◌, ◌≤◌, Bool, true, false, List, length, get_or, sym, refl, ap, ◌∙◌, inl, inr, true≢false, arith}
+use Rattle.std.proofs.Common.{◌≡◌, ℕ, ◌+◌, ◌*◌, ◌^◌, ◌<◌, ◌≤◌, Bool, false, List, length, get_or, sym, refl, ap, ◌∙◌, inl, inr, true≢false, arith}
 use borrow.Rule.Slice.PartMut.{put_mid}
 use Rattle.std.specs.List.{between}
 use Rattle.std.proofs.lemmas.Bool.Decides.{eqb_tells}
 use Rattle.distance.specs.Axes.{along}
-use Rattle.motion.specs.Changes.{moved, impulse_at, gathered, Kicked, Received, Pulled, member, ShareKicked}
-use Rattle.motion.specs.Memory.{position_at, momentum_at}
+use Rattle.motion.specs.Changes.{moved, impulse_at, Kicked, Received, Pulled, member, ShareKicked}
+use Rattle.motion.specs.Memory.{momentum_at}
 use Rattle.motion.specs.declared.system.System.{System}
 use Rattle.motion.specs.declared.turn.Direction.{Direction}
 use Rattle.motion.proofs.BodyWords.{part_reads, own_part, other_part}

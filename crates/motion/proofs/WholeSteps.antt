@@ -1,8 +1,7 @@
 -- What the code leaves in memory after a step is the step of the definitions, as one equation of states. Within the system it
 -- holds word by word; outside of it there is nothing on both sides.
-use Rattle.std.proofs.Common.{◌≡◌, ℕ, zero, suc, ◌+◌, ◌-◌, ◌*◌, ◌%◌, ◌^◌, ◌<◌, ◌≤◌, Bool, true, false, cond, leb, ◌⊎◌, List, get_or, sym, refl, ap, ◌∙◌, inl, inr, mod-eq_of_lt, arith, w64, le-ltb, lt-ltb}
+use Rattle.std.proofs.Common.{◌≡◌, ℕ, suc, ◌%◌, ◌^◌, ◌<◌, ◌≤◌, Bool, true, false, cond, ◌⊎◌, List, get_or, sym, refl, ap, ◌∙◌, inl, inr, mod-eq_of_lt, arith, w64, le-ltb, lt-ltb}
 use Rattle.std.proofs.lemmas.Bool.Decides.{leb_tells}
-use Rattle.words.specs.Numbers.{Numbers}
 use Rattle.words.specs.Signed.{divided}
 use Rattle.words.specs.Words.{Word, word, words}
 use Rattle.words.proofs.Signs.{divided_word, divided_none}
@@ -12,7 +11,7 @@ use Rattle.impulse.proofs.Pairs.{impulse_level, impulse_massless}
 use Rattle.motion.specs.Bodies.{sum_of, impulses, kicked, step, drifted_back, step_back}
 use Rattle.motion.specs.Changes.{moved, gathered, everyone, AllKicked, AllDrifted, member, ShareKicked, ShareHolds}
 use Rattle.motion.specs.Memory.{state_of, position_at, momentum_at, inside, held}
-use Rattle.motion.specs.Systems.{WordsState, mass_of, system_law, step_of, back_of, stepped}
+use Rattle.motion.specs.Systems.{mass_of, system_law, step_of, back_of, stepped}
 use Rattle.motion.specs.declared.system.System.{System}
 use Rattle.motion.specs.declared.turn.Direction.{Direction}
 use Rattle.motion.specs.declared.turn.Direction.TheVariants.{Ahead, Behind}

@@ -1,6 +1,6 @@
 -- The law of a system: the impulses of its bodies and how far they move, over words of 64 bits.
 -- Assumes nothing: these are definitions.
-use Rattle.std.specs.Prelude.{◌≡◌, ℕ, ◌^◌, ◌≤◌, List, map, length, take, slice_index}
+use Rattle.std.specs.Prelude.{◌≡◌, ℕ, List, map, length, take, slice_index}
 use Rattle.std.specs.Int.{w64}
 use Rattle.words.specs.Signed.{divided}
 use Rattle.words.specs.Words.{Word, word, words}

@@ -1,4 +1,7 @@
 //! Motion: a step, a step back and rows of them, over words that are lent. The state belongs to the time.
+
+#![tactic(auto)]
+
 ghost use Rattle.std.specs.Prelude.{◌≡◌, ◌<◌, ◌⊎◌, length, MatchResult, OnOk};
 ghost use Rattle.motion.specs.Memory.{state_of};
 ghost use Rattle.motion.specs.Outcomes.{Outcome, ShareOutcome, Timed};

@@ -1,4 +1,7 @@
 //! Moves a system that is built in by turns of the lever, and prints a line for each.
+
+#![tactic(auto)]
+
 use anyhow::anyhow;
 use distance::Softening;
 use motion::{System, Turn};

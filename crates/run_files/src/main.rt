@@ -1,4 +1,7 @@
 //! Reads a system and the calls behind it, makes the calls, and prints a line for each.
+
+#![tactic(auto)]
+
 use anyhow::anyhow;
 use calls::run_calls;
 use input::{Words, behind_first, read_input};

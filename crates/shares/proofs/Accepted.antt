@@ -1,5 +1,5 @@
 -- Rows that hold each body once are told nothing, and what they carry is the state after them.
-use Rattle.std.proofs.Common.{◌≡◌, ℕ, zero, suc, ◌+◌, ◌-◌, ◌*◌, ◌/◌, ◌%◌, ◌^◌, ◌<◌, ◌≤◌, Bool, true, false, cond, ◌&&◌, ◌||◌, eqb, ◌⊎◌, List, length, get_or, sym, refl, ap, ◌∙◌, inl, inr, mod-eq_of_lt, arith, eq-eqb, ne_eqb}
+use Rattle.std.proofs.Common.{◌≡◌, ℕ, zero, suc, ◌+◌, ◌*◌, ◌%◌, ◌^◌, ◌<◌, ◌≤◌, Bool, true, false, cond, ◌&&◌, ◌||◌, eqb, ◌⊎◌, List, sym, refl, ap, ◌∙◌, inl, inr, mod-eq_of_lt, arith, eq-eqb, ne_eqb}
 use Rattle.std.proofs.lemmas.Bool.Decides.{eqb_tells}
 use Rattle.words.specs.Words.{Word, word}
 use Rattle.words.proofs.Wrapping.{same_word}
@@ -8,7 +8,7 @@ use Rattle.motion.specs.Refusals.{Told, good, refused}
 use Rattle.motion.specs.Systems.{WordsState}
 use Rattle.motion.proofs.WholeSteps.{exists, held_inside, held_outside}
 use Rattle.shares.specs.Rows.{row_body, rows_in, RowOf}
-use Rattle.shares.specs.Taking.{seen, all_seen, faulty, ending, rows_from, checking, taking, Distinct, EachOnce, Taken}
+use Rattle.shares.specs.Taking.{seen, all_seen, rows_from, checking, taking, EachOnce, Taken}
 use Rattle.shares.specs.Together.{RowsOf}
 use Rattle.shares.proofs.TakenRows.{not_faulty, ending_good, taking_rows}
 

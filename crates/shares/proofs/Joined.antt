@@ -1,12 +1,12 @@
 -- The rows of two shares, one behind the other: each body is in one of the two, so each has one row.
-use Rattle.std.proofs.Common.{◌≡◌, ℕ, ◌+◌, ◌-◌, ◌*◌, ◌/◌, ◌<◌, ◌≤◌, Bool, true, false, cond, not, List, ◌++◌, length, get_or, take, drop, sym, refl, ap, ◌∙◌, subst, inl, inr, true≢false, append-nil, arith, length-take_le, get_or-take, rules}
+use Rattle.std.proofs.Common.{◌≡◌, ℕ, ◌+◌, ◌-◌, ◌*◌, ◌<◌, ◌≤◌, Bool, true, false, cond, not, List, ◌++◌, length, get_or, take, drop, sym, refl, ap, ◌∙◌, subst, inl, inr, true≢false, append-nil, arith, length-take-le, get_or-take, rules}
 use borrow.Rule.Slice.PartMut.{put_mid, post_of}
 use Rattle.std.proofs.lemmas.List.{places, drop_at, drop_all, drop-drop, take_rest}
 use Rattle.std.proofs.lemmas.Bool.Decides.{leb_tells}
 use Rattle.motion.specs.Changes.{member}
 use Rattle.motion.specs.Systems.{WordsState}
-use Rattle.shares.specs.Rows.{word_at, row_body, row_momentum, row_position, rows_in, RowOf, Sent, members}
-use Rattle.shares.specs.Taking.{Distinct, EachOnce}
+use Rattle.shares.specs.Rows.{word_at, row_body, rows_in, RowOf, Sent, members}
+use Rattle.shares.specs.Taking.{EachOnce}
 use Rattle.shares.specs.Together.{RowsOf}
 use Rattle.shares.proofs.Members.{members_within, member_at, members_both}
 use Rattle.shares.proofs.Placed.{placed_own, placed_other}
@@ -144,7 +144,7 @@ gathered_rows n first second s t before one part two sent more left others first
     size : length all ≡ 49 * members first n + 49 * members second n
     size = let e = first_sent.size in let f = second_sent.size in
         let l : length (put_mid sent left one two) ≡ length one = search (rules, places) in
-        length-take_le (sent + more) (put_mid sent left one two) (omega arith) ∙ omega arith
+        length-take-le (sent + more) (put_mid sent left one two) (omega arith) ∙ omega arith
 
 -- behind the rows of both nothing has changed
 pub gathered_behind : (n : ℕ) (first second : List Bool) (s t : WordsState) (before one two : List ℕ) (sent more left : ℕ) →
@@ -156,7 +156,7 @@ gathered_behind n first second s t before one two sent more left others first_se
     let both = members_both first second n others in
     let sum : 49 * n ≡ sent + more = omega arith in
     let rest : drop sent (put_mid sent left one two) ≡ two =
-    drop_at (take sent one) (two ++ post_of sent left one) sent (length-take_le sent one room)
+    drop_at (take sent one) (two ++ post_of sent left one) sent (length-take-le sent one room)
     ∙ ap (λ l. two ++ l) (drop-drop left sent one ∙ drop_all (sent + left) one (omega arith)) ∙ append-nil two in
     ap (λ k. drop k (put_mid sent left one two)) sum ∙ sym (drop-drop more sent (put_mid sent left one two)) ∙ ap (drop more) rest
     ∙ second_sent.behind ∙ ap (λ m. drop more (take m (drop sent one))) left_is ∙ ap (drop more) (take_rest one sent ∙ first_sent.behind)

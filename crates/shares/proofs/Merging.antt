@@ -1,7 +1,7 @@
 -- States that are merged: outside of the system there is nothing, and from one state the merged one is that of one computer.
-use Rattle.std.proofs.Common.{◌≡◌, ℕ, ◌+◌, ◌*◌, ◌<◌, ◌≤◌, Bool, true, false, cond, ◌⊎◌, List, [], ◌∷◌, ◌++◌, length, get_or, take, sym, refl, ap, ◌∙◌, le-ltb}
+use Rattle.std.proofs.Common.{◌≡◌, ℕ, ◌+◌, ◌*◌, ◌<◌, ◌≤◌, Bool, true, false, cond, ◌⊎◌, List, [], ◌∷◌, ◌++◌, length, get_or, take, refl, ap, ◌∙◌, le-ltb}
 use Rattle.std.proofs.lemmas.List.{take_more}
-use Rattle.words.specs.Words.{Word, word}
+use Rattle.words.specs.Words.{word}
 use Rattle.motion.specs.Changes.{member}
 use Rattle.motion.specs.Memory.{state_of, inside}
 use Rattle.motion.specs.Refusals.{good}

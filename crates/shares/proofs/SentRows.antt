@@ -1,5 +1,5 @@
 -- Rows that are written one behind the other: a new row leaves those before it as they are.
-use Rattle.std.proofs.Common.{◌≡◌, ℕ, ◌+◌, ◌*◌, ◌<◌, ◌≤◌, Bool, true, List, ◌++◌, length, get_or, drop, sym, refl, ap, ◌∙◌, inl, inr, add-zero, add_assoc, arith, rules, le-ltb}
+use Rattle.std.proofs.Common.{◌≡◌, ℕ, ◌+◌, ◌*◌, ◌<◌, ◌≤◌, Bool, true, List, ◌++◌, length, get_or, drop, sym, ap, ◌∙◌, inl, inr, add-zero, add_assoc, arith, rules, le-ltb}
 use borrow.Rule.Slice.PartMut.{put_mid}
 use Rattle.std.specs.List.{between}
 use Rattle.std.proofs.lemmas.List.Edits.{get_or-between}
@@ -8,8 +8,8 @@ use Rattle.std.proofs.lemmas.Bool.Decides.{eqb_tells}
 use Rattle.motion.specs.Changes.{member, ShareHolds}
 use Rattle.motion.specs.Refusals.{good}
 use Rattle.motion.specs.Systems.{WordsState}
-use Rattle.motion.specs.Memory.{position_at, momentum_at, state_length}
-use Rattle.shares.specs.Rows.{word_at, row_body, row_momentum, row_position, RowOf, RowWritten, RowsWritten, Sent, members, sending}
+use Rattle.motion.specs.Memory.{state_length}
+use Rattle.shares.specs.Rows.{word_at, row_body, RowWritten, RowsWritten, Sent, members, sending}
 use Rattle.shares.proofs.Members.{members_within}
 use Rattle.shares.proofs.Placed.{placed_own, placed_other}
 use Rattle.shares.proofs.Written.{word_moved, word_stays}

@@ -1,5 +1,5 @@
 -- Rows that are looked through and then written: each body has one row, so no write spoils another.
-use Rattle.std.proofs.Common.{◌≡◌, ℕ, zero, suc, ◌+◌, ◌-◌, ◌*◌, ◌/◌, ◌%◌, ◌<◌, ◌≤◌, Bool, true, false, cond, not, ◌&&◌, ◌||◌, eqb, ltb, ◌≢◌, ◌⊎◌, List, ◌++◌, length, get_or, drop, set, sym, refl, ap, ◌∙◌, inl, inr, true≢false, add_assoc, arith, length-set, get_or-set_other, get_or-set_same, rules, le-ltb, lt-ltb, eq-eqb}
+use Rattle.std.proofs.Common.{◌≡◌, ℕ, zero, suc, ◌+◌, ◌-◌, ◌*◌, ◌%◌, ◌<◌, ◌≤◌, Bool, true, false, cond, ◌&&◌, ◌||◌, eqb, ◌≢◌, ◌⊎◌, List, ◌++◌, length, get_or, drop, set, sym, refl, ap, ◌∙◌, inl, inr, true≢false, add_assoc, arith, length-set, get_or-set_other, get_or-set_same, rules, le-ltb, lt-ltb, eq-eqb}
 use borrow.Rule.Slice.PartMut.{put_mid}
 use Rattle.std.specs.List.{between}
 use Rattle.std.proofs.lemmas.List.Edits.{get_or-between}

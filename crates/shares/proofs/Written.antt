@@ -1,5 +1,5 @@
 -- Words in bytes stay where no byte of theirs is written.
-use Rattle.std.proofs.Common.{◌≡◌, ℕ, ◌+◌, ◌*◌, ◌<◌, ◌≤◌, List, get_or, sym, refl, ap, ◌∙◌, add-zero, arith}
+use Rattle.std.proofs.Common.{◌≡◌, ℕ, ◌+◌, ◌*◌, ◌<◌, ◌≤◌, List, get_or, sym, ap, ◌∙◌, add-zero, arith}
 use Rattle.shares.specs.Rows.{word_at}
 
 -- a word is that of its eight bytes, wherever they stand

@@ -1,6 +1,6 @@
 -- The rows that computers send each other: 49 bytes for each body, its number, three momenta, three positions.
 -- Assumes nothing: these are definitions.
-use Rattle.std.specs.Prelude.{◌≡◌, ℕ, zero, suc, ◌+◌, ◌*◌, ◌/◌, ◌%◌, ◌<◌, Bool, true, false, cond, not, ◌&&◌, ◌||◌, List, length, drop, nat_lt, slice_index, slice_index_or}
+use Rattle.std.specs.Prelude.{◌≡◌, ℕ, zero, suc, ◌+◌, ◌*◌, ◌/◌, ◌<◌, Bool, true, cond, List, length, drop, nat_lt, slice_index, slice_index_or}
 use Rattle.motion.specs.Changes.{member}
 use Rattle.motion.specs.Memory.{position_at, momentum_at, state_length}
 use Rattle.motion.specs.Refusals.{Told, good, refused}

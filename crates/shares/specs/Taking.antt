@@ -1,6 +1,6 @@
 -- Which rows are taken in and which are refused, and what is written where they are taken.
 -- Assumes nothing: these are definitions.
-use Rattle.std.specs.Prelude.{◌≡◌, ℕ, zero, suc, ◌+◌, ◌*◌, ◌/◌, ◌%◌, ◌<◌, Bool, true, false, cond, not, ◌&&◌, ◌||◌, List, length, drop, ◌==◌, ◌≢◌, nat_lt, slice_index}
+use Rattle.std.specs.Prelude.{◌≡◌, ℕ, zero, suc, ◌+◌, ◌*◌, ◌%◌, ◌<◌, Bool, true, false, cond, not, ◌&&◌, ◌||◌, List, length, drop, ◌==◌, ◌≢◌, nat_lt, slice_index}
 use Rattle.motion.specs.Memory.{position_at, momentum_at, state_length}
 use Rattle.motion.specs.Refusals.{Told, good, refused}
 use Rattle.shares.specs.Rows.{word_at, row_body, row_momentum, row_position, rows_in}

@@ -1,4 +1,7 @@
 //! Shares: two computers work out the bodies of their shares, send each other rows of bytes, and hold one state.
+
+#![tactic(auto)]
+
 ghost use Rattle.std.specs.Prelude.{◌≡◌, ◌*◌, ◌≤◌, length, take, drop, MatchResult};
 ghost use Rattle.motion.specs.Memory.{state_of, state_length};
 ghost use Rattle.motion.specs.Refusals.{told};

@@ -1,4 +1,7 @@
 //! Goes forward and back with a random system of 64 bodies, and tells whether the words of the opening are back.
+
+#![tactic(auto)]
+
 use anyhow::anyhow;
 use distance::Softening;
 use motion::{System, Turn, check_sum};

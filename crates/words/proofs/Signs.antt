@@ -1,5 +1,5 @@
 -- A word read with sign and divided is a word again, whatever it is divided by.
-use Rattle.std.proofs.Common.{◌≡◌, ℕ, zero, suc, ◌+◌, ◌-◌, ◌/◌, ◌^◌, ◌<◌, ◌≤◌, ℤ, pos, negsuc, neg_ℤ, nat_abs, refl, div-le_self, arith, w64, of_z}
+use Rattle.std.proofs.Common.{◌≡◌, ℕ, zero, suc, ◌/◌, ◌^◌, ◌<◌, ◌≤◌, ℤ, pos, negsuc, neg_ℤ, nat_abs, div-le_self, arith, w64, of_z}
 use native.Mathlib.Nat.{zero-div}
 use lib.Signed.{quot_z}
 use Rattle.std.proofs.lemmas.Int.{ints}

@@ -1,9 +1,9 @@
 -- Words of every width are lawful numbers: each law is an equation of remainders, shown once for all k.
-use Rattle.std.proofs.Common.{◌≡◌, ℕ, ◌+◌, ◌-◌, ◌%◌, ◌^◌, ◌<◌, ◌≤◌, sym, refl, ap, ◌∙◌, add_assoc, mod-eq_of_lt, add_comm, arith}
+use Rattle.std.proofs.Common.{◌≡◌, ℕ, ◌+◌, ◌-◌, ◌%◌, ◌^◌, ◌<◌, sym, ap, ◌∙◌, add_assoc, mod-eq_of_lt, add_comm, arith}
 use mathlib.Core.HLevel.{is_prop→PathP}
 use native.Mathlib.Nat.{mod-add-mod, add-mod-mod, add-mod_right}
 use native.Mathlib.Bridge.{le_prop}
-use Rattle.words.specs.Numbers.{Numbers, Lawful}
+use Rattle.words.specs.Numbers.{Lawful}
 use Rattle.words.specs.Words.{Word, word, words}
 
 -- words of one value are one word

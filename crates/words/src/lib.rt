@@ -1,4 +1,7 @@
 //! Words of 64 bits: sums and differences that wrap, the reading with sign, its size, division toward 0, and numbers in bytes.
+
+#![tactic(auto)]
+
 ghost use Rattle.std.specs.Prelude.{◌≡◌, ℕ, ◌^◌, ◌<◌, ◌≤◌};
 ghost use Rattle.std.specs.Int.{w64, Width};
 ghost use mir.Val.{bits};

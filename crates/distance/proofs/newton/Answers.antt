@@ -1,5 +1,5 @@
 -- A step of Newton's method lands at or above the whole root, and falls where the guess was above it.
-use Rattle.std.proofs.Common.{◌≡◌, ℕ, ◌+◌, ◌*◌, ◌/◌, ◌^◌, ◌<◌, sym, subst, inl, inr, arith}
+use Rattle.std.proofs.Common.{◌≡◌, ◌+◌, ◌/◌, inl, inr, arith}
 use Rattle.std.proofs.lemmas.Bool.Decides.{leb_tells}
 use Rattle.distance.proofs.Roots.{newton_beyond, newton_falls}
 use Rattle.distance.proofs.newton.Goals as goal

@@ -1,5 +1,5 @@
 -- Both ways out hold the square within and the next one beyond, and the whole root is the only such number.
-use Rattle.std.proofs.Common.{◌+◌, ◌*◌, ◌^◌, ◌<◌, arith}
+use Rattle.std.proofs.Common.{arith}
 use Rattle.distance.specs.Root.{WholeRoot}
 use Rattle.distance.proofs.Roots.{whole_root_is}
 use Rattle.distance.proofs.root.Goals as goal

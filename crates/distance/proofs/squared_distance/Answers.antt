@@ -1,6 +1,5 @@
 -- Each square is at most 2 ^ 38, so the sums stay far below 2 ^ 64.
-use Rattle.std.proofs.Common.{ℕ, ◌*◌, ◌^◌, ◌≤◌, arith}
-use Rattle.distance.specs.Axes.{along}
+use Rattle.std.proofs.Common.{arith}
 use Rattle.distance.proofs.Bounds.{square_bound}
 use Rattle.distance.proofs.squared_distance.Goals as goal
 

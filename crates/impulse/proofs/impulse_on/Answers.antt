@@ -1,13 +1,13 @@
 -- The parts of the code, put together, are the impulse of the definition; its bounds are those of the distance.
-use Rattle.std.proofs.Common.{◌≡◌, ℕ, ◌*◌, ◌^◌, ◌<◌, ◌≤◌, List, [], ◌∷◌, ap, ◌∙◌, arith, rules}
-use Rattle.distance.specs.Axes.{along, by_axis}
+use Rattle.std.proofs.Common.{ℕ, ◌*◌, ◌^◌, ◌<◌, [], ◌∷◌, ap, ◌∙◌, arith, rules}
+use Rattle.distance.specs.Axes.{along}
 use Rattle.distance.specs.Distance.{squared_distance}
 use Rattle.distance.specs.Root.{whole_root}
 use Rattle.distance.proofs.Axis.{on_each}
-use Rattle.impulse.specs.Impulse.{Position, SmallFactors, impulse}
+use Rattle.impulse.specs.Impulse.{Position, SmallFactors}
 use Rattle.impulse.proofs.Pairs.{factors_on, impulse_along, pair_of_impulses}
 use Rattle.impulse.proofs.impulse_on.Goals as goal
-use Rattle.impulse.proofs.impulse_on.Goals.{After-value-2, at·along-axis-requires, at·along-axis-requires-2, at·along-axis-requires-3, at·returns}
+use Rattle.impulse.proofs.impulse_on.Goals.{After-value-2, at-along_axis-requires, at-along_axis-requires-2, at-along_axis-requires-3, at-returns}
 
 factors : (c : After-value-2) (a : ℕ) → a < 3 →
     SmallFactors (along c.new-distance.result.separations a) c.new-distance.result.weight (c.value.result * c.value-2.result)
@@ -17,13 +17,13 @@ factors c =
     c.args.body.mass.most c.args.other.mass.most
 
 pub along_axis-requires : goal.along_axis-requires
-along_axis-requires c = factors (at·along-axis-requires c).After-value-2 0 (omega arith)
+along_axis-requires c = factors (at-along_axis-requires c).After-value-2 0 (omega arith)
 
 pub along_axis-requires-2 : goal.along_axis-requires-2
-along_axis-requires-2 c = factors (at·along-axis-requires-2 c).After-value-2 1 (omega arith)
+along_axis-requires-2 c = factors (at-along_axis-requires-2 c).After-value-2 1 (omega arith)
 
 pub along_axis-requires-3 : goal.along_axis-requires-3
-along_axis-requires-3 c = factors (at·along-axis-requires-3 c).After-value-2 2 (omega arith)
+along_axis-requires-3 c = factors (at-along_axis-requires-3 c).After-value-2 2 (omega arith)
 
 here : (c : goal.After-along_axis-3) → Position (along c.args.body.position)
 here c = on_each (λ a. along c.args.body.position a < 2 ^ 64) (search rules) (search rules) (search rules)

@@ -1,5 +1,5 @@
 -- Each turn of the loop is one shared step more.
-use Rattle.std.proofs.Common.{◌≡◌, ◌*◌, ◌≤◌, [], length, get_or, sym, refl, ap, ◌∙◌, arith}
+use Rattle.std.proofs.Common.{◌≡◌, [], get_or, sym, refl, ap, ◌∙◌, arith}
 use Rattle.std.proofs.lemmas.List.{take_all}
 use Rattle.motion.specs.Memory.{state_of}
 use Rattle.motion.specs.declared.turn.Direction.TheVariants.{Ahead}
@@ -17,8 +17,8 @@ loop-step-preserved c =
     let n = system.count in
     let none : SharedStep = record { direction = Ahead; first = [] } in
     let shared = get_or c.args.steps.now c.loop-step.step-index none in
-    let made = c.in-ok-share_step.ensures.states in
-    let left = c.in-ok-share_step.ensures.room in
+    let made = c.in_ok-share_step.ensures.states in
+    let left = c.in_ok-share_step.ensures.room in
     let start = two_of n c.args.first.now c.args.second.now in
     let one : two_of n c.share_step.new.first c.share_step.new.second
     ≡ record {

@@ -1,5 +1,5 @@
 -- The rows are written by the words that the step of the share left, and lie in front of the other bytes.
-use Rattle.std.proofs.Common.{◌≡◌, ℕ, ◌-◌, ◌*◌, ◌<◌, ◌≤◌, length, get_or, take, ap, ◌∙◌, subst, arith, get_or-take, rules}
+use Rattle.std.proofs.Common.{◌≡◌, ◌-◌, ◌*◌, length, take, ap, ◌∙◌, subst, arith, get_or-take, rules}
 use Rattle.std.proofs.lemmas.List.{places}
 use Rattle.std.proofs.lemmas.Slice.{overwrites}
 use Rattle.shares.specs.Rows.{members, RowsWritten}
@@ -13,7 +13,7 @@ returns c =
     let all : k ≡ n = c.count-count.ensures in
     let share = c.args.share.now in
     let ys = c.write_rows.new.rows in
-    let stepped = c.in-ok-step_share.ensures in
+    let stepped = c.in_ok-step_share.ensures in
     let size : 49 * c.count_members-needed.result ≡ 49 * members share n = ap (λ m. 49 * m) (c.count_members-needed.ensures.value ∙ ap (members share) all) in
     let long : length ys ≡ 49 * c.count_members-needed.result = search (rules, places) in
     record {

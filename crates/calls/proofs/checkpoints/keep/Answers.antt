@@ -4,8 +4,8 @@ use Rattle.std.proofs.lemmas.Int.{to_z-of_z}
 use Rattle.calls.proofs.Kept.{room_for, part_between}
 use Rattle.calls.proofs.checkpoints.keep.Goals as goal
 
-pub slice-bounds-write_checkpoint-end : goal.slice-bounds-write_checkpoint-end
-slice-bounds-write_checkpoint-end c =
+pub slice_bounds-write_checkpoint-end : goal.slice_bounds-write_checkpoint-end
+slice_bounds-write_checkpoint-end c =
     omega (arith, room_for c.args.number c.checkpoint_size-size.result (length c.args.checkpoints.now) c.requires.number (omega (arith, c.requires.checkpoints)))
 
 pub returns : goal.returns

@@ -1,5 +1,5 @@
 -- What the code adds up is the squared distance of the definition; its bounds keep the product and the quotient within 64 bits.
-use Rattle.std.proofs.Common.{◌≡◌, ℕ, ◌*◌, ◌/◌, ◌^◌, ◌<◌, ◌≤◌, ap, ◌∙◌, arith, Fits}
+use Rattle.std.proofs.Common.{◌≡◌, ℕ, ◌*◌, ◌/◌, ◌^◌, ◌<◌, ◌≤◌, ap, ◌∙◌, arith}
 use Rattle.distance.specs.Axes.{along}
 use Rattle.distance.specs.Distance.{squared_distance, Bounded}
 use Rattle.distance.specs.Root.{whole_root}
@@ -18,7 +18,7 @@ squared_is c = cc
 bounds : (c : goal.After-root-root) → Bounded c.args.softening.value (along c.args.differences)
 bounds c =
     bounded _ _ c.args.softening.least c.args.softening.most
-    (on_each (λ a. along c.args.differences a < 2 ^ 64) c.element_fits.ranges c.element_fits2.ranges c.element_fits3.ranges)
+    (on_each (λ a. along c.args.differences a < 2 ^ 64) c.element_fits.fits c.element_fits2.fits c.element_fits3.fits)
 
 root_is : (c : goal.After-root-root) → c.root-root.result ≡ whole_root (q c)
 root_is c = c.root-root.ensures.value ∙ ap whole_root (squared_is c)

@@ -31,16 +31,16 @@ returns c =
       behind = l.invariant.2;
     }
 
-pub returns-in-err-next : goal.returns-in-err-next
-returns-in-err-next c =
+pub returns-in_err-next : goal.returns-in_err-next
+returns-in_err-next c =
     let l = c.loop-calls in
     let bytes = c.args.bytes.now in
     let p = err_from_is_err_and c.from_residual.result c.from_residual.ensures.1 in
     rw (p.1, p.2) (record {
       answer = sym (l.invariant.0
           ∙ from_here bytes l.calls l.at (machine_of l.player l.state l.checkpoints) c.args.player.now.system l.player.system l.invariant.1 c.loop-calls-test.true
-          ∙ c.in-err-next.ensures.found (length bytes - (l.calls + 1)));
-      behind = behind_then (ap (λ s. s.count) l.invariant.1) l.invariant.2 c.in-err-next.ensures.behind;
+          ∙ c.in_err-next.ensures.found (length bytes - (l.calls + 1)));
+      behind = behind_then (ap (λ s. s.count) l.invariant.1) l.invariant.2 c.in_err-next.ensures.behind;
     })
 
 pub returns-in-Ended : goal.returns-in-Ended
@@ -49,7 +49,7 @@ returns-in-Ended c =
     let bytes = c.args.bytes.now in
     let last = c.check_call.new in
     let found = subst (λ n. Found bytes l.calls l.at l.player last.player l.state last.state l.checkpoints last.checkpoints (Ok n)) c.in-Ended.is
-    c.in-ok-next.ensures.found in
+    c.in_ok-next.ensures.found in
     record {
       answer = ap (λ a. good (acceptance a)) c.accept-in-Ended.ensures
           ∙ ap (λ p. good (record { calls = l.calls; time = p.time; ending = refused (number_of c.in-Ended.refusal) (place_of c.in-Ended.refusal) })) found.1

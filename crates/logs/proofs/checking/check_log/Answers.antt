@@ -14,8 +14,8 @@ use Rattle.logs.proofs.checking.check_log.Goals as goal
 pub returns : goal.returns
 returns c =
     let bytes = c.args.bytes.now in
-    let player = c.in-ok-player.player in
-    let e = c.in-ok-player.ensures in
+    let player = c.in_ok-player.player in
+    let e = c.in_ok-player.ensures in
     let opened = e.left in
     let from = c.system_size-from.ensures ∙ ap (λ r. body_at r.count) opened.rules in
     let answer = c.check_calls.ensures.answer
@@ -33,13 +33,13 @@ returns c =
           c.check_calls.ensures.behind;
     }
 
-pub returns-in-err-player : goal.returns-in-err-player
-returns-in-err-player c =
+pub returns-in_err-player : goal.returns-in_err-player
+returns-in_err-player c =
     let p = err_from_is_err_and c.from_residual.result c.from_residual.ensures.1 in
     let bytes = c.args.bytes.now in
-    let e = c.in-err-player.ensures in
+    let e = c.in_err-player.ensures in
     let answer = ap (log_in bytes) e.answer in
-    let judged = judge bytes (λ j. (c.type_inv.bytes j).fits) (length c.args.state.now) (length c.args.checkpoints.now) (length c.args.work.now) (Err c.in-err-player.field-0.0) answer in
+    let judged = judge bytes (λ j. (c.type_inv.bytes j).fits) (length c.args.state.now) (length c.args.checkpoints.now) (length c.args.work.now) (Err c.in_err-player.field-0.0) answer in
     rw (p.1, p.2) (record {
       answer = answer;
       right = judged.right;

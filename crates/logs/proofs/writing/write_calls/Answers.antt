@@ -35,7 +35,7 @@ returns-in-None c =
     let last = c.write_call.new in
     let recorded = subst
     (λ n. Recorded bytes l.number l.at n l.player last.player l.state last.state l.checkpoints last.checkpoints (vec_items l.log) (vec_items last.log))
-    c.in-None.is c.in-ok-next.ensures.log in
+    c.in-None.is c.in_ok-next.ensures.log in
     record {
       log = recorded (length bytes - (l.number + 1)) ∙ sym (l.invariant.0
           ∙ ap (λ w. vec_items l.log ++ w) (written_here bytes l.number l.at (machine_of l.player l.state l.checkpoints) c.args.player.now.system l.player.system l.invariant.1 c.loop-number-test.true));

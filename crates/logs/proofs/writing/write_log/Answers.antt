@@ -9,8 +9,8 @@ use Rattle.logs.specs.Writing.{written_from, written_in}
 use Rattle.logs.proofs.WrittenLogs.{written_log}
 use Rattle.logs.proofs.writing.write_log.Goals as goal
 
-pub returns-in-err-extend_from_slice : goal.returns-in-err-extend_from_slice
-returns-in-err-extend_from_slice c =
+pub returns-in_err-extend_from_slice : goal.returns-in_err-extend_from_slice
+returns-in_err-extend_from_slice c =
     let opened = c.in-Ok.ensures.left in
     record {
       log = IfOk-from_err c.from_residual.result _ c.from_residual.ensures.0;
@@ -18,10 +18,10 @@ returns-in-err-extend_from_slice c =
       behind = opened_behind c.args.bytes.now c.in-Ok.player c.args.state.now c.open_in_front.new.state c.args.checkpoints.now c.open_in_front.new.checkpoints c.args.work.now opened;
     }
 
-pub returns-in-err-write_calls : goal.returns-in-err-write_calls
-returns-in-err-write_calls c =
+pub returns-in_err-write_calls : goal.returns-in_err-write_calls
+returns-in_err-write_calls c =
     let opened = c.in-Ok.ensures.left in
-    let r = c.from_residual-in-err-write_calls in
+    let r = c.from_residual-in_err-write_calls in
     record {
       log = IfOk-from_err r.result _ r.ensures.0;
       right = IfOk-from_err r.result _ r.ensures.0;
@@ -37,8 +37,8 @@ returns c =
     let opened = e.left in
     let from = c.system_size-from.ensures ∙ ap (λ r. body_at r.count) opened.rules in
     let begins : c.system_size-from.result - 0 ≡ body_at (count_in bytes) = omega (arith, from) in
-    let front = c.in-ok-extend_from_slice.ensures.items ∙ ap (λ l. l ++ take (c.system_size-from.result - 0) bytes) c.new-log.ensures.items ∙ ap (λ n. take n bytes) begins in
-    let items = c.in-ok-write_calls.ensures.log
+    let front = c.in_ok-extend_from_slice.ensures.items ∙ ap (λ l. l ++ take (c.system_size-from.result - 0) bytes) c.new-log.ensures.items ∙ ap (λ n. take n bytes) begins in
+    let items = c.in_ok-write_calls.ensures.log
     ∙ (λ i. front i ++ written_from (opened.rules i) bytes (length bytes) 0 (from i) (opened.machine i)) in
     let taken = (both (system_told bytes) (room_told (count_in bytes) (length c.args.state.now) (length c.args.checkpoints.now) (length c.args.work.now)) tt (sym e.answer)).0 in
     record {

@@ -14,5 +14,5 @@ returns c =
     let word = c.cast_unsigned.ensures ∙ ap (of_z w64) (to_z-of_z w64 c.time.result fits ∙ c.time.ensures) in
     let now = sym (mod-eq_of_lt c.cast_unsigned.type_inv) ∙ ap (λ n. n % 2 ^ 64) word in
     IfOk-weaker c.append_word-2.result _ _ (λ x e checkpoints.
-    e ∙ ap (λ l. l ++ bytes_of 8 sum) c.in-ok-append_word.ensures ∙ append_assoc before (bytes_of 8 time) (bytes_of 8 sum)
+    e ∙ ap (λ l. l ++ bytes_of 8 sum) c.in_ok-append_word.ensures ∙ append_assoc before (bytes_of 8 time) (bytes_of 8 sum)
     ∙ (λ i. before ++ (bytes_of 8 (now i) ++ bytes_of 8 (c.state_sum.ensures i)))) c.append_word-2.ensures

@@ -1,7 +1,7 @@
 -- Each turn of the loop takes in one word more.
-use Rattle.std.proofs.Common.{◌≡◌, sym, refl, ap, ◌∙◌, add-one}
+use Rattle.std.proofs.Common.{refl, add-one}
 use lib.Bits.{bit_xor}
-use Rattle.motion.specs.Checks.{check_below, turned_left}
+use Rattle.motion.specs.Checks.{check_below}
 use Rattle.motion.proofs.checks.check_sum.Goals as goal
 
 pub loop-k-init : goal.loop-k-init

@@ -1,5 +1,5 @@
 -- Each turn moves one more body.
-use Rattle.std.proofs.Common.{◌≡◌, ℕ, ◌+◌, ◌-◌, ◌*◌, ◌<◌, ◌≤◌, length, arith, rules}
+use Rattle.std.proofs.Common.{◌≡◌, ◌+◌, ◌-◌, ◌*◌, ◌<◌, ◌≤◌, length, arith, rules}
 use Rattle.std.proofs.lemmas.List.{places}
 use Rattle.motion.specs.Changes.{everyone}
 use Rattle.motion.proofs.Drifts.{drifted_more}

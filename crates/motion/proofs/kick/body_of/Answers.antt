@@ -1,5 +1,5 @@
 -- The mass stands in the array, and the position in the body's part of the state.
-use Rattle.std.proofs.Common.{◌≡◌, ℕ, ◌+◌, ◌*◌, ◌<◌, ◌≤◌, [], ◌∷◌, length, ◌∙◌, arith, rules}
+use Rattle.std.proofs.Common.{◌+◌, ◌*◌, ◌<◌, ◌≤◌, [], ◌∷◌, length, ◌∙◌, arith, rules}
 use Rattle.motion.proofs.BodyWords.{part_reads}
 use Rattle.motion.proofs.Masses.{mass_read}
 use Rattle.motion.proofs.kick.body_of.Goals as goal

@@ -1,15 +1,10 @@
 -- What the two parts hold now is what the law gives to each of the two bodies.
-use Rattle.std.proofs.Common.{◌≡◌, ℕ, ◌+◌, ◌-◌, ◌*◌, ◌%◌, ◌^◌, ◌<◌, ◌≤◌, length, get_or, sym, ap, ◌∙◌, subst, mod-eq_of_lt, arith, rules}
+use Rattle.std.proofs.Common.{◌≡◌, ℕ, ◌+◌, ◌-◌, ◌*◌, ◌^◌, ◌<◌, length, get_or, subst, arith, rules}
 use borrow.Rule.Slice.PartMut.{put_mid}
 use Rattle.std.specs.List.{between}
 use Rattle.std.proofs.lemmas.List.{places}
-use Rattle.distance.specs.Axes.{along, by_axis}
-use Rattle.distance.proofs.Axis.{along_by_axis}
-use Rattle.impulse.specs.Impulse.{impulse, PairOfImpulses}
-use Rattle.words.specs.Words.{plus}
-use Rattle.motion.specs.Changes.{Kicked, opposite, moved, impulse_at}
-use Rattle.motion.specs.Memory.{position_at}
-use Rattle.motion.specs.Systems.{mass_of}
+use Rattle.distance.specs.Axes.{along}
+use Rattle.motion.specs.Changes.{Kicked, opposite}
 use Rattle.motion.proofs.Exchanges.{exchanged, first_gets, second_gets}
 use Rattle.motion.proofs.kick.exchange.Goals as goal
 

@@ -1,5 +1,5 @@
 -- Kicks and drifts, in the order of the direction, make the step of the definitions for the bodies of the share.
-use Rattle.std.proofs.Common.{◌≡◌, ℕ, ◌^◌, ◌<◌, get_or, rules}
+use Rattle.std.proofs.Common.{ℕ, ◌^◌, ◌<◌, get_or, rules}
 use Rattle.motion.proofs.WholeSteps.{share_step_is, share_back_is}
 use Rattle.motion.proofs.share.advance_share.Goals as goal
 

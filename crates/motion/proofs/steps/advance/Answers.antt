@@ -1,5 +1,5 @@
 -- Kicks and drifts, in the order of the direction, make the step of the definitions.
-use Rattle.std.proofs.Common.{◌≡◌, ℕ, ◌^◌, ◌<◌, get_or, rules}
+use Rattle.std.proofs.Common.{ℕ, ◌^◌, ◌<◌, get_or, rules}
 use Rattle.motion.proofs.WholeSteps.{step_is, back_is}
 use Rattle.motion.proofs.steps.advance.Goals as goal
 

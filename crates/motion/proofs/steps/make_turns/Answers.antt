@@ -1,5 +1,5 @@
 -- Each turn of the loop is one turn of the lever more.
-use Rattle.std.proofs.Common.{◌≡◌, take, sym, refl, ap, ◌∙◌, arith}
+use Rattle.std.proofs.Common.{sym, refl, ap, ◌∙◌, arith}
 use Rattle.motion.specs.Memory.{state_of}
 use Rattle.motion.specs.Systems.{step_of, back_of}
 use Rattle.motion.specs.Travel.{again, travel}
@@ -20,9 +20,9 @@ loop-turn-preserved c =
     let next = travel_more (step_of system) (back_of system) c.args.turns.now c.loop-turn.turn-index (Forward 0) in
     let start = state_of system.count c.args.state.now in
     elim c.match-turn.branch [
-      | in-Forward w ↦ ap (state_of system.count) w.state_is ∙ w.repeat.ensures ∙ ap (again (step_of system) w.in-Forward.count) so_far
+      | in-Forward w ↦ ap (state_of system.count) w.state-is ∙ w.repeat.ensures ∙ ap (again (step_of system) w.in-Forward.count) so_far
           ∙ sym (next (Forward w.in-Forward.count) start c.loop-turn-test.true w.in-Forward.is)
-      | in-Back w ↦ ap (state_of system.count) w.state_is ∙ w.repeat-in-Back.ensures ∙ ap (again (back_of system) w.in-Back.count) so_far
+      | in-Back w ↦ ap (state_of system.count) w.state-is ∙ w.repeat-in-Back.ensures ∙ ap (again (back_of system) w.in-Back.count) so_far
           ∙ sym (next (Back w.in-Back.count) start c.loop-turn-test.true w.in-Back.is)
     ]
 

@@ -1,5 +1,5 @@
 -- Each body of the share counts one.
-use Rattle.std.proofs.Common.{◌≡◌, sym, ◌∙◌, arith}
+use Rattle.std.proofs.Common.{sym, ◌∙◌, arith}
 use Rattle.shares.proofs.Members.{members_none, members_in, members_out}
 use Rattle.shares.proofs.rows.count_members.Goals as goal
 use Rattle.shares.proofs.rows.count_members.Goals.{then-in_share, else-in_share}

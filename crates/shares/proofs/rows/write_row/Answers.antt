@@ -1,7 +1,6 @@
 -- Each turn writes two words more, clear of those before.
-use Rattle.std.proofs.Common.{◌≡◌, ℕ, ◌+◌, ◌*◌, ◌<◌, get_or, ◌∙◌, inl, inr, arith}
+use Rattle.std.proofs.Common.{◌+◌, ◌*◌, ◌∙◌, inl, inr, arith}
 use Rattle.std.proofs.lemmas.Bool.Decides.{eqb_tells}
-use Rattle.shares.specs.Rows.{word_at}
 use Rattle.shares.proofs.Written.{word_stays}
 use Rattle.shares.proofs.rows.write_row.Goals as goal
 

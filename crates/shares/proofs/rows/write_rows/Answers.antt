@@ -1,8 +1,6 @@
 -- A body of the share gets the next row, and another none.
-use Rattle.std.proofs.Common.{◌≡◌, ℕ, ◌+◌, ◌-◌, ◌*◌, ◌<◌, ◌≤◌, true, false, length, sym, refl, ap, ◌∙◌, true≢false, arith, rules}
+use Rattle.std.proofs.Common.{◌≡◌, ◌+◌, ◌-◌, ◌≤◌, length, sym, ◌∙◌, true≢false, arith, rules}
 use Rattle.std.proofs.lemmas.List.{places}
-use Rattle.motion.specs.Changes.{member}
-use Rattle.shares.specs.Rows.{members}
 use Rattle.shares.proofs.Members.{members_none, members_in, members_out, row_room}
 use Rattle.shares.proofs.SentRows.{rows_none, rows_more, rows_skip}
 use Rattle.shares.proofs.rows.write_rows.Goals as goal
@@ -19,8 +17,8 @@ overflow_add-at c =
           (sym c.in_share.ensures ∙ c.if-in_share.true) (omega arith) c.requires.count c.loop-b.invariant.1 c.requires.rows,
     )
 
-pub slice-bounds-write_row-end-then-in_share : goal.slice-bounds-write_row-end-then-in_share
-slice-bounds-write_row-end-then-in_share c =
+pub slice_bounds-write_row-end-then-in_share : goal.slice_bounds-write_row-end-then-in_share
+slice_bounds-write_row-end-then-in_share c =
     omega (
       arith,
       row_room c.args.share.now c.loop-b.b c.args.count c.loop-b.at _

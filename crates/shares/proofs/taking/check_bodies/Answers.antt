@@ -1,7 +1,7 @@
 -- The first faulty row is told, and a row without fault is passed over.
 use Rattle.std.proofs.Common.{◌≡◌, sym, ◌∙◌, subst, arith}
 use Rattle.shares.specs.Taking.{Distinct}
-use Rattle.shares.proofs.TakenRows.{fault_here, no_fault, rows_over, distinct_none, distinct_more, beyond_faulty, seen_faulty, not_faulty}
+use Rattle.shares.proofs.TakenRows.{fault_here, no_fault, rows_over, distinct_more, beyond_faulty, seen_faulty, not_faulty}
 use Rattle.shares.proofs.taking.check_bodies.Goals as goal
 
 pub returns-then-body-count : goal.returns-then-body-count

@@ -9,5 +9,5 @@ returns c =
     let rows = c.args.rows.now in
     let whole : length rows % 49 ≡ 0 = omega arith in
     let all = sym c.all_seen_in.ensures ∙ c.if-not-all_seen_in.false in
-    let bodies = c.in-ok-check_bodies.ensures in
+    let bodies = c.in_ok-check_bodies.ensures in
     record { answer = sym (bodies.0 ∙ ending_good n rows whole all); once = each_once n rows bodies.1 whole all }

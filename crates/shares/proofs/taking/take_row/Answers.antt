@@ -1,5 +1,5 @@
 -- Each turn writes two words more, clear of those before.
-use Rattle.std.proofs.Common.{◌≡◌, ℕ, ◌+◌, ◌*◌, ◌<◌, length, ◌∙◌, inl, inr, arith}
+use Rattle.std.proofs.Common.{◌≡◌, ◌+◌, ◌*◌, ◌<◌, length, ◌∙◌, inl, inr, arith}
 use Rattle.std.proofs.lemmas.Bool.Decides.{eqb_tells}
 use Rattle.shares.proofs.TakenRows.{odd_same, even_same, other_same}
 use Rattle.shares.proofs.taking.take_row.Goals as goal

@@ -22,7 +22,7 @@ returns-in-Forward c =
     c.checked_add-to.ensures c.arrive.ensures (ap obeyed c.in-Forward.is) (ap (checkpoints_after player.system.count player.time state kept) c.in-Forward.is) in
     record {
       answer = with_room _ _ _ c.count-count.result player.system.count (length state) (length kept) (length c.args.work.now)
-          promised.answer c.in-ok-check_room.ensures c.count-count.ensures;
+          promised.answer c.in_ok-check_room.ensures c.count-count.ensures;
       left = promised.left;
     }
 
@@ -40,7 +40,7 @@ returns-in-Back c =
     c.checked_sub-to.ensures c.arrive-in-Back.ensures (ap obeyed c.in-Back.is) (ap (checkpoints_after player.system.count player.time state kept) c.in-Back.is) in
     record {
       answer = with_room _ _ _ c.count-count.result player.system.count (length state) (length kept) (length c.args.work.now)
-          promised.answer c.in-ok-check_room.ensures c.count-count.ensures;
+          promised.answer c.in_ok-check_room.ensures c.count-count.ensures;
       left = promised.left;
     }
 
@@ -59,7 +59,7 @@ returns-in-GoTo c =
     (ap (checkpoints_after player.system.count player.time state kept) c.in-GoTo.is) in
     record {
       answer = with_room _ _ _ c.count-count.result player.system.count (length state) (length kept) (length c.args.work.now)
-          promised.answer c.in-ok-check_room.ensures c.count-count.ensures;
+          promised.answer c.in_ok-check_room.ensures c.count-count.ensures;
       left = promised.left;
     }
 
@@ -80,6 +80,6 @@ returns-in-Mark c =
     (sym c.in-Mark.is) made in
     record {
       answer = with_room _ _ _ c.count-count.result player.system.count (length state) (length kept) (length c.args.work.now)
-          promised.answer c.in-ok-check_room.ensures c.count-count.ensures;
+          promised.answer c.in_ok-check_room.ensures c.count-count.ensures;
       left = promised.left;
     }

@@ -1,5 +1,5 @@
 -- The array begins with the masses that were copied.
-use Rattle.std.proofs.Common.{◌≡◌, length, refl, ap, ◌∙◌}
+use Rattle.std.proofs.Common.{length, refl, ap, ◌∙◌}
 use Rattle.std.proofs.lemmas.List.{take_at}
 use Rattle.motion.proofs.system.System.new.Goals as goal
 
