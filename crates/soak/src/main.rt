@@ -124,9 +124,10 @@ fn soak(
     let back = timed_turn(rt, system, Turn::Back(request.steps), state, work)?;
     let after = check_sum(state);
     println!(rt; "after {after:016x}")?;
-    there
-        .checked_add(back)
-        .ok_or("the time is out of range".into())
+    let Some(time) = there.checked_add(back) else {
+        return Err(anyhow!("the time is out of range"));
+    };
+    Ok(time)
 }
 
 fn run(rt: &HostRuntime) -> anyhow::Result<()> {
