@@ -1,5 +1,5 @@
 -- Checkpoints in memory: a write under one number is read back there, and all others stay.
-use Rattle.std.proofs.Common.{◌≡◌, ℕ, suc, ◌+◌, ◌-◌, ◌*◌, ◌<◌, ◌≤◌, cond, eqb, ◌⊎◌, List, [], ◌∷◌, ◌++◌, length, get_or, take, drop, set, ℤ, Some, None, sym, refl, ap, ◌∙◌, inl, inr, add-zero, add_assoc, mul-le-mul_right, zero-add, arith, w64, SFits, of_z, rules, lt-ltb}
+use Rattle.std.proofs.Common.{◌≡◌, ℕ, suc, ◌+◌, ◌*◌, ◌<◌, ◌≤◌, cond, eqb, ◌⊎◌, List, [], ◌∷◌, ◌++◌, length, get_or, take, drop, set, ℤ, Some, None, sym, refl, ap, ◌∙◌, inl, inr, add-zero, add_assoc, mul-le-mul_right, zero-add, arith, w64, SFits, of_z, rules, lt-ltb}
 use borrow.Rule.Slice.PartMut.{put_mid}
 use Rattle.std.proofs.lemmas.List.{places, append-nil, drop_all, drop-drop, get_or-drop, get_or-take, length-take-le}
 use Rattle.std.proofs.lemmas.Slice.{drop-put_mid}

@@ -103,7 +103,7 @@ fn make_call(
 ) -> Result<(Answer, usize), Refusal>
     requires at { at < length bytes.now }
     requires room { room_told player.old.system.count (length state.old) (length checkpoints.old) (length work.old) ≡ good tt }
-    ensures { MatchResult result (λ made. GoesOn bytes.now number at IfOk.0 IfOk.1 player.old player.new state.old state.new checkpoints.old checkpoints.new work.old work.new) (λ refusal. Stops bytes.now number at refusal player.old player.new state.old state.new checkpoints.old checkpoints.new work.old work.new) }
+    ensures { MatchResult result (λ made. GoesOn bytes.now number at made.0 made.1 player.old player.new state.old state.new checkpoints.old checkpoints.new work.old work.new) (λ refusal. Stops bytes.now number at refusal player.old player.new state.old state.new checkpoints.old checkpoints.new work.old work.new) }
 {
     let call = Call::decode(bytes, number, at)?;
     let answer = player.obey(call, number, state, checkpoints, work)?;

@@ -4,7 +4,7 @@
 
 ghost use Rattle.std.specs.Prelude.{◌≡◌, ℕ, ◌+◌, ◌*◌, ◌^◌, ◌<◌, ◌≤◌};
 ghost use Rattle.distance.specs.Axes.{by_axis, along};
-ghost use Rattle.distance.specs.Distance.{separation as separationOf, squared_distance, weight as weightOf, Bounded};
+ghost use Rattle.distance.specs.Distance.{separation as separation_of, squared_distance, weight as weight_of, Bounded};
 ghost use Rattle.distance.specs.Root.{WholeRoot, whole_root};
 
 use words::size_of_signed;
@@ -21,7 +21,7 @@ const WEIGHT_SCALE: u64 = 1 << 62;
 
 /// Gives the separation on an axis where positions differ by `difference`: its size in units of 2^44, at most 2^19.
 pub fn separation(difference: u64) -> u64
-    ensures value { result ≡ separationOf difference }
+    ensures value { result ≡ separation_of difference }
     ensures bound { result ≤ 2 ^ 19 }
 {
     size_of_signed(difference) >> 44
@@ -68,9 +68,9 @@ pub struct Distance {
 impl Distance {
     /// Measures the distance of two bodies by the differences of their positions. The root is looked for from `start`.
     pub fn new(differences: [u64; 3], softening: Softening, start: u64) -> Distance
-        ensures separations { result.separations ≡ by_axis (λ a. separationOf (along differences a)) }
+        ensures separations { result.separations ≡ by_axis (λ a. separation_of (along differences a)) }
         ensures root { result.root ≡ whole_root (squared_distance softening.value (along differences)) }
-        ensures weight { result.weight ≡ weightOf (squared_distance softening.value (along differences)) }
+        ensures weight { result.weight ≡ weight_of (squared_distance softening.value (along differences)) }
         ensures bounds { Bounded softening.value (along differences) }
     {
         let [d0, d1, d2] = differences;

@@ -6,7 +6,7 @@ ghost use Rattle.std.specs.Prelude.{◌≡◌, ℕ, ◌*◌, ◌/◌, ◌^◌, �
 ghost use Rattle.distance.specs.Axes.{by_axis, along};
 ghost use Rattle.distance.specs.Distance.{squared_distance};
 ghost use Rattle.distance.specs.Root.{whole_root};
-ghost use Rattle.impulse.specs.Impulse.{impulse as impulseOf, with_sign_of, way, SmallFactors, PairOfImpulses};
+ghost use Rattle.impulse.specs.Impulse.{impulse as impulse_of, with_sign_of, way, SmallFactors, PairOfImpulses};
 
 use distance::{Distance, Softening};
 use words::{Mass, difference};
@@ -32,7 +32,7 @@ pub struct Impulse {
 
 /// Gives the impulse on `body` from `other`. The root of their distance is looked for from `start`.
 pub fn impulse_on(body: Body, other: Body, softening: Softening, start: u64) -> Impulse
-    ensures value { result.on_axes ≡ by_axis (impulseOf softening.value body.mass.value other.mass.value (along body.position) (along other.position)) }
+    ensures value { result.on_axes ≡ by_axis (impulse_of softening.value body.mass.value other.mass.value (along body.position) (along other.position)) }
     ensures root { result.root ≡ whole_root (squared_distance softening.value (way (along body.position) (along other.position))) }
     ensures pair { (a : ℕ) → a < 3 → PairOfImpulses softening.value body.mass.value other.mass.value (along body.position) (along other.position) a }
 {
@@ -54,7 +54,7 @@ pub fn impulse_on(body: Body, other: Body, softening: Softening, start: u64) -> 
 
 /// A body gives itself no impulse.
 pub fn no_impulse_on_itself()
-    ensures { (softening m n a : ℕ) (here : ℕ → ℕ) → here a < 2 ^ 64 → impulseOf softening m n here here a ≡ 0 }
+    ensures { (softening m n a : ℕ) (here : ℕ → ℕ) → here a < 2 ^ 64 → impulse_of softening m n here here a ≡ 0 }
 {}
 
 /// Gives the way from one position to another, on each axis.

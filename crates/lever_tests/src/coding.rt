@@ -29,7 +29,7 @@ fn calls_have_the_bytes_of_the_rules(rt: HostRuntime) -> Result<(), Fail> {
     Call::Read { body: 63, axis: 2 }.encode(&mut bytes)?;
     assert_eq!(rt;
         bytes.as_slice(),
-        &[1, 1, 2, 3, 4, 2, 255, 255, 255, 255, 3, 15, 4, 7, 5, 63, 2]
+        &[1, 1, 2, 3, 4, 2, 255, 255, 255, 255, 3, 15, 4, 7, 5, 63, 2][..]
     );
     Ok(())
 }
@@ -43,14 +43,23 @@ fn check_there_and_back(
 ) -> Result<(), Fail> {
     let at = bytes.len();
     call.encode(bytes)?;
-    assert_eq!(rt; bytes.len().checked_sub(at), Some(call.size()));
-    assert_eq!(rt; Call::decode(bytes.as_slice(), number, at), Ok(call));
+    assert_eq!(rt;
+        bytes.len().checked_sub(at),
+        Some(call.size()),
+        "call {number}"
+    );
+    assert_eq!(rt;
+        Call::decode(bytes.as_slice(), number, at),
+        Ok(call),
+        "call {number}"
+    );
     let Some((_, cut)) = bytes.as_slice().split_last() else {
         return Err(Fail::new("no bytes"));
     };
     assert_eq!(rt;
         Call::decode(cut, number, at),
-        Err(Refusal::Length(cut.len()))
+        Err(Refusal::Length(cut.len())),
+        "call {number}"
     );
     Ok(())
 }
@@ -61,7 +70,7 @@ fn random_calls_come_back(rt: HostRuntime) -> Result<(), Fail> {
     let mut bytes = Vec::new(rt.alloc());
     for number in 0..2000 {
         let call = any_call(&mut random);
-        check_there_and_back(&rt, call, number, &mut bytes).note(number)?;
+        check_there_and_back(&rt, call, number, &mut bytes)?;
     }
     assert_eq!(rt;
         Call::decode(bytes.as_slice(), 7, bytes.len()),

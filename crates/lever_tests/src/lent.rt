@@ -3,7 +3,7 @@ use crate::random::Random;
 use calls::{Answer, Call, Player, Report, run_calls};
 use motion::Refusal;
 use std::alloc::{AllocError, Global};
-use std::test::*;
+use std::process::Abort;
 
 /// Words that suffice for every system, and some behind them; they hold anything when they are made.
 #[derive(Clone, PartialEq, Debug, Drop)]
@@ -80,18 +80,17 @@ impl Lent {
     }
 
     /// Looks whether what lies behind the words that so many bodies use is as it was.
-    pub fn check_behind(&self, before: &Lent, count: u8) -> Result<(), Fail> {
+    pub fn check_behind(&self, rt: &impl Abort, before: &Lent, count: u8) {
         let bodies = usize::from(count);
         let state = 6 * bodies;
         let checkpoints = checkpoints_size(count);
         let work = bodies * bodies.saturating_sub(1) / 2;
-        assert_eq!(self.state.get(state..), before.state.get(state..));
-        assert_eq!(
+        assert_eq!(rt; self.state.get(state..), before.state.get(state..));
+        assert_eq!(rt;
             self.checkpoints.get(checkpoints..),
             before.checkpoints.get(checkpoints..)
         );
-        assert_eq!(self.work.get(work..), before.work.get(work..));
-        Ok(())
+        assert_eq!(rt; self.work.get(work..), before.work.get(work..));
     }
 
     /// Adds up the momenta of so many bodies along an axis.

@@ -16,9 +16,10 @@ struct Kept {
     state: Vec<u64>,
 }
 
-/// A player, its time, and what it was told to keep.
+/// A player, its time, and what it was told to keep, under the seed that made its system.
 #[derive(Drop)]
 struct Lesson {
+    seed: u64,
     count: u8,
     player: Player,
     lent: Lent,
@@ -65,12 +66,14 @@ impl Lesson {
     }
 
     /// Makes a call, and looks what it answers and what it leaves.
-    fn make(&mut self, call: Call, number: usize) -> Result<(), Fail> {
+    fn make(&mut self, rt: &impl Abort, call: Call, number: usize) -> Result<(), Fail> {
+        let seed = self.seed;
         let before = self.lent.clone()?;
         let expected = self.expected(call, number);
-        assert_eq!(self.lent.obey(&mut self.player, call, number), expected);
+        let answer = self.lent.obey(&mut self.player, call, number);
+        assert_eq!(rt; answer, expected, "seed {seed}");
         let Ok(Answer::Time(time)) = expected else {
-            assert_eq!(&self.lent, &before);
+            assert_eq!(rt; &self.lent, &before, "seed {seed}");
             return Ok(());
         };
         self.time = time;
@@ -81,7 +84,7 @@ impl Lesson {
             }
             Call::GoTo(mark) => {
                 let kept = self.kept.get(&mark).ok_or("nothing is kept")?;
-                assert_eq!(&self.lent.state, &kept.state);
+                assert_eq!(rt; &self.lent.state, &kept.state, "seed {seed}");
             }
             _ => {}
         }
@@ -89,7 +92,14 @@ impl Lesson {
     }
 
     /// Looks whether the words are those of the time, by turns from the opening, and what lies behind them stays.
-    fn check_time(&self, heap: Global, sky: &Sky, opened: &Lent) -> Result<(), Fail> {
+    fn check_time(
+        &self,
+        rt: &impl Abort,
+        heap: Global,
+        sky: &Sky,
+        opened: &Lent,
+    ) -> Result<(), Fail> {
+        let seed = self.seed;
         let mut there = opened.clone()?;
         let steps = self.time.unsigned_abs();
         let turn = if self.time < 0 {
@@ -98,19 +108,21 @@ impl Lesson {
             Turn::Forward(steps)
         };
         sky.system(heap)?.turn(turn, there.state.as_mut_slice(), there.work.as_mut_slice())?;
-        assert_eq!(&self.lent.state, &there.state);
+        assert_eq!(rt; &self.lent.state, &there.state, "seed {seed}");
         for axis in 0..3 {
-            assert_eq!(
+            assert_eq!(rt;
                 self.lent.momentum(self.count, axis),
-                opened.momentum(self.count, axis)
+                opened.momentum(self.count, axis),
+                "seed {seed}"
             );
         }
-        self.lent.check_behind(opened, self.count)
+        self.lent.check_behind(rt, opened, self.count);
+        Ok(())
     }
 }
 
 /// Opens a system, and looks what the lent words hold.
-fn open(rt: &impl Abort, heap: Global, sky: &Sky) -> Result<Lesson, Fail> {
+fn open(rt: &impl Abort, heap: Global, seed: u64, sky: &Sky) -> Result<Lesson, Fail> {
     let count = sky.count()?;
     let before = Lent::new(heap)?;
     let mut lent = before.clone()?;
@@ -119,8 +131,9 @@ fn open(rt: &impl Abort, heap: Global, sky: &Sky) -> Result<Lesson, Fail> {
     for word in lent.checkpoints.iter().take(checkpoints_size(count)) {
         assert_eq!(rt; *word, 0);
     }
-    lent.check_behind(&before, count)?;
+    lent.check_behind(rt, &before, count);
     Ok(Lesson {
+        seed,
         count,
         player,
         lent,
@@ -133,19 +146,19 @@ fn open(rt: &impl Abort, heap: Global, sky: &Sky) -> Result<Lesson, Fail> {
 fn play(rt: &impl Abort, heap: Global, seed: u64) -> Result<(), Fail> {
     let mut random = Random { seed };
     let sky = Sky::random(heap, &mut random)?;
-    let mut lesson = open(rt, heap, &sky)?;
+    let mut lesson = open(rt, heap, seed, &sky)?;
     let opened = lesson.lent.clone()?;
     for number in 0..60 {
         let call = random.call(lesson.count);
-        lesson.make(call, number)?;
+        lesson.make(rt, call, number)?;
     }
-    lesson.check_time(heap, &sky, &opened)
+    lesson.check_time(rt, heap, &sky, &opened)
 }
 
 #[test]
 fn the_state_belongs_to_the_time(rt: HostRuntime) -> Result<(), Fail> {
     for seed in 0..200 {
-        play(&rt, rt.alloc(), seed).note(seed)?;
+        play(&rt, rt.alloc(), seed)?;
     }
     Ok(())
 }
@@ -175,16 +188,16 @@ fn run(rt: &impl Abort, heap: Global, seed: u64) -> Result<(), Fail> {
     }
     let mut other = Lent::new(heap)?;
     let report = other.run(heap, bytes.as_slice())?;
-    assert_eq!(rt; report.text.as_str(), text.as_str());
-    assert_eq!(rt; report.refusal, refusal);
-    assert_eq!(rt; &other, &lent);
+    assert_eq!(rt; report.text.as_str(), text.as_str(), "seed {seed}");
+    assert_eq!(rt; report.refusal, refusal, "seed {seed}");
+    assert_eq!(rt; &other, &lent, "seed {seed}");
     Ok(())
 }
 
 #[test]
 fn a_row_tells_what_its_calls_answer(rt: HostRuntime) -> Result<(), Fail> {
     for seed in 0..200 {
-        run(&rt, rt.alloc(), seed).note(seed)?;
+        run(&rt, rt.alloc(), seed)?;
     }
     Ok(())
 }

@@ -2,7 +2,7 @@
 use Rattle.std.proofs.Common.{◌≡◌, ℕ, zero, suc, ◌+◌, ◌-◌, ◌<◌, ◌≤◌, Bool, true, false, cond, ◌⊎◌, List, [], ◌∷◌, ◌++◌, length, get_or, take, drop, sym, refl, ap, ◌∙◌, inl, inr, append_assoc, add-zero, arith, le-ltb}
 use borrow.Author.Tests.{lt-leb}
 use Rattle.std.proofs.lemmas.List.{drop_at, drop-drop, get_or-drop, take_at, take-append-drop, length-append, length-drop, length-take-le}
-use Rattle.std.specs.List.{AllByRecursion as All}
+use Rattle.std.specs.List.{AllByRecursion}
 use Rattle.words.specs.Bytes.{bytes_of}
 use Rattle.words.proofs.InBytes.{length-bytes_of}
 use Rattle.motion.specs.Refusals.{Told, good, refused}
@@ -123,7 +123,7 @@ module _ (rules : Rules) (bytes : List ℕ) where
       )
 
   -- a call that is answered, with its stamp, or one that is refused
-  by_answer : (call : Call) (calls : List Call) (end : End) (k at most : ℕ) (m : Machine) → All Writable (call ∷ calls) → at ≤ length bytes →
+  by_answer : (call : Call) (calls : List Call) (end : End) (k at most : ℕ) (m : Machine) → AllByRecursion Writable (call ∷ calls) → at ≤ length bytes →
       drop at bytes ≡ bytes_of_call call ++ behind rules (obey rules m k call).answer (obey rules m k call).after (λ after. log_of rules after (k + 1) calls end) →
       ((to : ℕ) → to ≤ length bytes → length bytes ≤ most + to → drop to bytes ≡ log_of rules (obey rules m k call).after (k + 1) calls end → Accepts most (k + 1) to (obey rules m k call).after) →
       length bytes ≤ suc most + at → (told : Told Answer) → (obey rules m k call).answer ≡ told → Accepts (suc most) k at m
@@ -143,7 +143,7 @@ module _ (rules : Rules) (bytes : List ℕ) where
       (more.0, told_right rules bytes m k at inside call can.0 rest is answer said _ _ long refl most refl ∙ more.1)
 
   -- the log of some calls is accepted
-  pub accepts : (calls : List Call) (end : End) (k at most : ℕ) (m : Machine) → All Writable calls → Ends end → at ≤ length bytes → length bytes ≤ most + at →
+  pub accepts : (calls : List Call) (end : End) (k at most : ℕ) (m : Machine) → AllByRecursion Writable calls → Ends end → at ≤ length bytes → length bytes ≤ most + at →
       drop at bytes ≡ log_of rules m k calls end → Accepts most k at m
   unfolding log_of
   accepts [] end k at most m can ends inside fuel e = accepts_end end k at most m ends inside fuel e
@@ -154,7 +154,7 @@ module _ (rules : Rules) (bytes : List ℕ) where
       by_answer call calls end k at most m can inside e (λ to h g f. accepts calls end (k + 1) to most (obey rules m k call).after can.1 ends h g f) fuel (obey rules m k call).answer refl
 
   -- the first wrong stamp is told at its call
-  pub refuses : ((j : ℕ) → get_or bytes j 0 < 256) → (calls : List Call) (call : Call) (written more : List ℕ) (k at most : ℕ) (m : Machine) → All Writable (calls ++ (call ∷ [])) →
+  pub refuses : ((j : ℕ) → get_or bytes j 0 < 256) → (calls : List Call) (call : Call) (written more : List ℕ) (k at most : ℕ) (m : Machine) → AllByRecursion Writable (calls ++ (call ∷ [])) →
       Answered rules m k (calls ++ (call ∷ [])) → length written ≡ 16 → at ≤ length bytes → length bytes ≤ most + at →
       drop at bytes ≡ stamped rules m k calls ++ (bytes_of_call call ++ (written ++ more)) →
       (written ≡ stamp rules.count (machine_after rules m k (calls ++ (call ∷ []))) → ⊥) → log_told rules bytes most k at m ≡ refused 10 (k + length calls)

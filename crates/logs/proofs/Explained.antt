@@ -3,7 +3,7 @@
 use Rattle.std.proofs.Common.{◌≡◌, ℕ, zero, suc, ◌+◌, ◌<◌, ◌≤◌, Bool, true, false, cond, ◌⊎◌, List, [], ◌∷◌, ◌++◌, length, get_or, take, drop, Some, None, sym, refl, ap, ◌∙◌, subst, inl, inr, append_assoc, add-zero, arith, eq-eqb, ne_eqb}
 use Rattle.std.proofs.lemmas.List.{drop_all, drop-drop, drop_more, take-append-drop, length-take-le, length-drop}
 use Rattle.std.proofs.lemmas.Bool.Decides.{leb_tells}
-use Rattle.std.specs.List.{AllByRecursion as All}
+use Rattle.std.specs.List.{AllByRecursion}
 use Rattle.words.specs.Bytes.{number_at}
 use Rattle.words.proofs.InBytes.{number_bound}
 use Rattle.motion.specs.Refusals.{Told, good, refused}
@@ -30,7 +30,7 @@ module _ (rules : Rules) (bytes : List ℕ) where
   pub record Logged (m : Machine) (k at : ℕ) : Type 0 where
     pub calls : List Call
     pub end : End
-    pub writable : All Writable calls
+    pub writable : AllByRecursion Writable calls
     pub ends : Ends end
     pub rest : drop at bytes ≡ log_of rules m k calls end
 
@@ -41,7 +41,7 @@ module _ (rules : Rules) (bytes : List ℕ) where
     pub written : List ℕ
     pub more : List ℕ
     pub many : k + length calls ≡ j
-    pub writable : All Writable (calls ++ (call ∷ []))
+    pub writable : AllByRecursion Writable (calls ++ (call ∷ []))
     pub answered : Answered rules m k (calls ++ (call ∷ []))
     pub long : length written ≡ 16
     pub bytes_are : drop at bytes ≡ stamped rules m k calls ++ (bytes_of_call call ++ (written ++ more))

@@ -1,7 +1,7 @@
 -- What is written, one call at a time; and that what is written is the log of the calls that were made.
 use Rattle.std.proofs.Common.{◌≡◌, ℕ, zero, suc, ◌+◌, ◌-◌, ◌<◌, ◌≤◌, cond, List, [], ◌∷◌, ◌++◌, length, get_or, sym, refl, ap, ◌∙◌, inl, inr, append-nil, arith, eq-eqb, ne_eqb, le-leb}
 use borrow.Author.Tests.{lt-leb}
-use Rattle.std.specs.List.{AllByRecursion as All}
+use Rattle.std.specs.List.{AllByRecursion}
 use Rattle.motion.specs.Refusals.{Told, good, refused}
 use Rattle.motion.specs.declared.system.System.{System}
 use Rattle.calls.specs.Calls.{size_of, bytes_of_call, call_at}
@@ -57,7 +57,7 @@ module _ (rules : Rules) (bytes : List ℕ) (small : (j : ℕ) → get_or bytes 
   pub record Logs (most k at : ℕ) (m : Machine) : Type 0 where
     pub calls : List Call
     pub end : End
-    pub writable : All Writable calls
+    pub writable : AllByRecursion Writable calls
     pub ends : Ends end
     pub is : written_from rules bytes most k at m ≡ log_of rules m k calls end
 

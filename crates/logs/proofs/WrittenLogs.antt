@@ -1,5 +1,5 @@
 -- A log that was written is a log: it begins with the system, and goes on with the log of the calls that were made.
-use Rattle.std.proofs.Common.{◌≡◌, ℕ, ◌+◌, ◌<◌, ◌≤◌, List, ◌++◌, length, get_or, take, drop, sym, ap, ◌∙◌, arith}
+use Rattle.std.proofs.Common.{◌≡◌, ℕ, ◌<◌, ◌≤◌, List, ◌++◌, length, get_or, take, drop, sym, ap, ◌∙◌, arith}
 use Rattle.std.proofs.lemmas.List.{drop_at, get_or_append_left, get_or-take, length-append, length-take-le}
 use Rattle.motion.specs.Refusals.{good}
 use Rattle.calls.specs.SystemBytes.{body_at, count_in, rules_in, machine_in, system_told}

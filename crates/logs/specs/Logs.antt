@@ -3,7 +3,7 @@
 use Rattle.std.specs.Prelude.{◌≡◌, ℕ, zero, suc, ◌+◌, ◌*◌, ◌/◌, ◌%◌, ◌^◌, ◌<◌, cond, ◌⊎◌, List, [], ◌∷◌, ◌++◌, length, drop, ℤ, ◌==◌, bit_xor}
 use Rattle.std.specs.Int.{w64}
 use Rattle.std.proofs.Common.{of_z}
-use Rattle.std.specs.List.{AllByRecursion as All}
+use Rattle.std.specs.List.{AllByRecursion}
 use Rattle.words.specs.Bytes.{bytes_of}
 use Rattle.motion.specs.Checks.{turned_left}
 use Rattle.motion.specs.Refusals.{Told, good, refused}
@@ -75,7 +75,7 @@ pub record Log (bytes : List ℕ) : Type 0 where
   pub system : system_told bytes ≡ good tt
   pub calls : List Call
   pub end : End
-  pub writable : All Writable calls
+  pub writable : AllByRecursion Writable calls
   pub ends : Ends end
   pub rest : drop (body_at (count_in bytes)) bytes ≡ log_of (rules_in bytes) (machine_in bytes) 0 calls end
 
@@ -104,7 +104,7 @@ pub record FirstWrong (bytes : List ℕ) (j : ℕ) : Type 0 where
   pub written : List ℕ
   pub more : List ℕ
   pub many : length calls ≡ j
-  pub writable : All Writable (calls ++ (call ∷ []))
+  pub writable : AllByRecursion Writable (calls ++ (call ∷ []))
   pub answered : Answered (rules_in bytes) (machine_in bytes) 0 (calls ++ (call ∷ []))
   pub long : length written ≡ 16
   pub bytes_are : drop (body_at (count_in bytes)) bytes
@@ -118,7 +118,7 @@ pub record InStamp (bytes : List ℕ) (j i : ℕ) : Type 0 where
   pub call : Call
   pub more : List ℕ
   pub many : length calls ≡ j
-  pub writable : All Writable (calls ++ (call ∷ []))
+  pub writable : AllByRecursion Writable (calls ++ (call ∷ []))
   pub answered : Answered (rules_in bytes) (machine_in bytes) 0 (calls ++ (call ∷ []))
   pub bytes_are : drop (body_at (count_in bytes)) bytes
       ≡ stamped (rules_in bytes) (machine_in bytes) 0 calls

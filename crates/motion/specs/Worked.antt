@@ -1,7 +1,7 @@
 -- Worked examples: small systems, with the words that a row of turns leads them to written out.
 -- Assumes nothing: these are definitions and a statement.
 use Rattle.std.specs.Prelude.{◌≡◌, ℕ, zero, suc, ◌-◌, ◌^◌, List, [], ◌∷◌, ◌++◌, length, slice_index_or}
-use Rattle.std.specs.List.{AllByRecursion as All}
+use Rattle.std.specs.List.{AllByRecursion}
 use Rattle.impulse.specs.Impulse.{impulse}
 use Rattle.motion.specs.Memory.{state_of, position_at}
 use Rattle.motion.specs.Systems.{WordsState, step_by, back_by}
@@ -67,4 +67,4 @@ examples =
 
 -- Every example's turns lead to the words that it expects; and the first of two bodies 2 ^ 60 apart gets an impulse of 2046.
 abbrev pub Worked : Type 0
-Worked = All (λ e. outcome e ≡ e.expected) examples × (impulse (2 ^ 20) 2 1 (position_at apart 0) (position_at apart 1) 0 ≡ 2046)
+Worked = AllByRecursion (λ e. outcome e ≡ e.expected) examples × (impulse (2 ^ 20) 2 1 (position_at apart 0) (position_at apart 1) 0 ≡ 2046)

@@ -1,6 +1,6 @@
 //! Turns of the lever, and the direction in which time runs.
 ghost use Rattle.std.specs.Prelude.{◌≡◌};
-ghost use Rattle.motion.specs.Changes.{moved as movedBy, opposite as oppositeOf};
+ghost use Rattle.motion.specs.Changes.{moved as moved_by, opposite as opposite_of};
 
 use words::{difference, sum};
 
@@ -20,7 +20,7 @@ pub enum Direction {
 
 impl Direction {
     pub(crate) fn opposite(self) -> Direction
-        ensures { result ≡ oppositeOf self }
+        ensures { result ≡ opposite_of self }
     {
         match self {
             Direction::Ahead => Direction::Behind,
@@ -30,7 +30,7 @@ impl Direction {
 
     /// Adds `by` to a word, or takes it away where time runs back.
     pub(crate) fn moved(self, word: u64, by: u64) -> u64
-        ensures { result ≡ movedBy self word by }
+        ensures { result ≡ moved_by self word by }
     {
         match self {
             Direction::Ahead => sum(word, by),

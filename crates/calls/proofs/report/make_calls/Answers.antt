@@ -59,8 +59,8 @@ loop-number-preserved c =
     ∙ ap (λ s. trace (rules_of s) here l.number (row_from bytes (suc most) l.number l.at)) (sym l.invariant.1)
     ∙ on.trace_on most
     ∙ ap (λ s. answered c.in-Ok.answer there (trace (rules_of s) there (l.number + 1) (row_from bytes most (l.number + 1) c.in-Ok.next))) l.invariant.1 in (
-      told_more l.invariant.0 c.in-Ok.answer there _ c.as_str.result.now _ further (c.as_str.ensures.value ∙ c.in_ok-line.ensures)
-          c.in_ok-push_str.ensures.bytes,
+      told_more l.invariant.0 c.in-Ok.answer there _ c.as_str.result.now _ further (c.as_str.ensures.value ∙ c.in_ok-line-in-Ok.ensures)
+          c.in_ok-push_str-in-Ok.ensures.bytes,
       on.system ∙ l.invariant.1,
       behind_then (ap (λ s. s.count) l.invariant.1) l.invariant.2 on.behind,
       omega (arith, on.further),

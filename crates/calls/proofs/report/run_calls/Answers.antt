@@ -4,7 +4,7 @@ use Rattle.calls.specs.Reports.{end_told, rest_of}
 use Rattle.calls.specs.Trace.{lines}
 use Rattle.calls.proofs.Played.{lines_none, lines_some}
 use Rattle.calls.proofs.report.run_calls.Goals as goal
-use Rattle.calls.proofs.report.run_calls.Goals.{in-Some+in_ok-refusal_line+in_ok-push_str, in-default}
+use Rattle.calls.proofs.report.run_calls.Goals.{in-Some+in_ok-refusal_line+in_ok-push_str, in_default}
 
 pub returns : goal.returns
 returns c =
@@ -20,8 +20,8 @@ returns c =
         left = played.left;
         behind = played.behind;
       }
-      | in-default w ↦ record {
-        text = ap string_bytes w.text-is ∙ lines_none text _ (played.text ∙ ap (λ r. text ++ lines (rest_of r)) w.in-default.is);
+      | in_default w ↦ record {
+        text = ap string_bytes w.text-is ∙ lines_none text _ (played.text ∙ ap (λ r. text ++ lines (rest_of r)) w.in_default.is);
         refusal = ap end_told w.refusal-is ∙ played.refusal;
         left = played.left;
         behind = played.behind;

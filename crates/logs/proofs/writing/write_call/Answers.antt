@@ -16,14 +16,14 @@ returns-in-Err c =
     let m = machine_of player c.args.state.now c.args.checkpoints.now in
     let e = c.in-Err.refusal in
     record {
-      log = λ most. c.in_ok-write_fault.ensures
+      log = λ most. c.in_ok-write_fault-in-Err.ensures
           ∙ ap (λ l. vec_items c.args.log.now ++ l) (sym (written_call (rules_of player.system) c.args.bytes.now c.args.number c.args.at m c.requires.at most
           (refused (number_of e) (place_of e)) (sym c.in-Err.ensures.answer)));
       behind = record { state_behind = refl; checkpoints_behind = refl; work_behind = refl };
     }
 
-pub returns-in_ok-encode-2 : goal.returns-in_ok-encode-2
-returns-in_ok-encode-2 c =
+pub returns-in_ok-encode-in-Err-obey : goal.returns-in_ok-encode-in-Err-obey
+returns-in_ok-encode-in-Err-obey c =
     let player = c.args.player.now in
     let rules = rules_of player.system in
     let m = machine_of player c.args.state.now c.args.checkpoints.now in
@@ -32,14 +32,14 @@ returns-in_ok-encode-2 c =
     let same = c.in-Err-obey.ensures.left in
     let why = c.in-Err-obey.ensures.answer ∙ ap (λ t. provided t (obey rules m c.args.number call).answer) c.requires.room in
     record {
-      log = λ most. c.in_ok-encode-2.ensures.items
+      log = λ most. c.in_ok-encode-in-Err-obey.ensures.items
           ∙ ap (λ l. vec_items c.args.log.now ++ l) (sym (written_refused rules c.args.bytes.now c.args.number c.args.at m c.requires.at call (sym c.in-Ok.ensures.answer)
           most (number_of e) (place_of e) (sym why)));
       behind = behind_untouched same player.system.count;
     }
 
-pub returns-in_ok-write_stamp : goal.returns-in_ok-write_stamp
-returns-in_ok-write_stamp c =
+pub returns-in_ok-write_stamp-in-Ok-obey : goal.returns-in_ok-write_stamp-in-Ok-obey
+returns-in_ok-write_stamp-in-Ok-obey c =
     let player = c.args.player.now in
     let rules = rules_of player.system in
     let before = vec_items c.args.log.now in
@@ -49,8 +49,8 @@ returns-in_ok-write_stamp c =
     let after = machine_of c.obey.new.self c.obey.new.state c.obey.new.checkpoints in
     let said = c.in-Ok-obey.ensures.answer ∙ ap (λ t. provided t (obey rules m c.args.number call).answer) c.requires.room in
     let to = c.args.at + c.size.result in
-    let written = c.in_ok-write_stamp.ensures c.obey.new.checkpoints
-    ∙ (λ i. c.in_ok-encode.ensures.items i ++ stamp (obeyed.outside.system i).count after) in
+    let written = c.in_ok-write_stamp-in-Ok-obey.ensures c.obey.new.checkpoints
+    ∙ (λ i. c.in_ok-encode-in-Ok-obey.ensures.items i ++ stamp (obeyed.outside.system i).count after) in
     record {
       log = record {
         written_on = λ most.

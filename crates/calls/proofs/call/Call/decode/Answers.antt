@@ -4,8 +4,8 @@ use Rattle.calls.specs.Calls.{size_of}
 use Rattle.calls.proofs.Coded.{front_call, unknown_call, whole_call, cut_call, read_back}
 use Rattle.calls.proofs.call.Call.decode.Goals as goal
 
-pub returns-in-default : goal.returns-in-default
-returns-in-default c = record { answer = sym (unknown_call c.args.bytes.now c.args.at c.args.number c.if-at-bytes.false (sym c.in-default.ensures)); within = tt; undone = tt }
+pub returns-in_default : goal.returns-in_default
+returns-in_default c = record { answer = sym (unknown_call c.args.bytes.now c.args.at c.args.number c.if-at-bytes.false (sym c.in_default.ensures)); within = tt; undone = tt }
 
 pub returns-then-bytes-at : goal.returns-then-bytes-at
 returns-then-bytes-at c =
