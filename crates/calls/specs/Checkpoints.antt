@@ -2,7 +2,7 @@
 -- Assumes nothing: these are definitions.
 use Rattle.std.specs.Prelude.{◌≡◌, ℕ, ◌+◌, ◌*◌, cond, List, ◌∷◌, ◌++◌, take, drop, ℤ, Some, None, Option, ◌==◌, nat_lt, slice_index}
 use Rattle.std.specs.Int.{w64}
-use Rattle.std.proofs.Common.{of_z}
+use mir.Val.{of_z}
 use Rattle.words.specs.Signed.{signed}
 use Rattle.motion.specs.Memory.{state_of, state_length}
 use Rattle.calls.specs.Machine.{Checkpoint, Machine}

@@ -1,7 +1,7 @@
 //! Checkpoints in memory: sixteen, each kept or not, with a time and the words of a state.
 ghost use Rattle.std.specs.Prelude.{◌≡◌, ◌+◌, ◌*◌, ◌<◌, ◌≤◌, ◌∷◌, length, Some, None, MatchOption};
 ghost use Rattle.std.specs.Int.{w64};
-ghost use Rattle.std.proofs.Common.{of_z};
+ghost use mir.Val.{of_z};
 ghost use Rattle.calls.specs.Checkpoints.{checkpoints_length, kept_in, kept_words, HoldsTime};
 
 use words::read_signed;

@@ -7,6 +7,7 @@ use input::{Words, behind_first, read_input};
 use logs::check_log;
 use motion::Refusal;
 use std::env;
+use std::process::ExitCode;
 
 const HELP: &str = "usage: check_log [FILE...]
 
@@ -54,13 +55,14 @@ fn start(rt: &HostRuntime) -> anyhow::Result<Option<Refusal>> {
     check(rt, names)
 }
 
-fn main(rt: HostRuntime) -> anyhow::Result<()> {
+fn main(rt: HostRuntime) -> ExitCode {
     match start(&rt) {
-        Ok(None) => Ok(()),
-        Ok(Some(_)) => Err(anyhow!("refused")),
+        Ok(None) => ExitCode::SUCCESS,
+        Ok(Some(_)) => ExitCode::FAILURE,
         Err(error) => {
-            eprintln!(rt; "check_log: {error}")?;
-            Err(error)
+            // Where even this cannot be written, the exit status is all that can tell.
+            let _told = eprintln!(rt; "check_log: {error}").is_ok();
+            ExitCode::FAILURE
         }
     }
 }

@@ -2,7 +2,7 @@
 -- Assumes nothing: these are definitions.
 use Rattle.std.specs.Prelude.{◌≡◌, ℕ, zero, suc, ◌+◌, ◌*◌, ◌/◌, ◌%◌, ◌^◌, ◌<◌, cond, ◌⊎◌, List, [], ◌∷◌, ◌++◌, length, drop, ℤ, ◌==◌, bit_xor}
 use Rattle.std.specs.Int.{w64}
-use Rattle.std.proofs.Common.{of_z}
+use mir.Val.{of_z}
 use Rattle.std.specs.List.{AllByRecursion}
 use Rattle.words.specs.Bytes.{bytes_of}
 use Rattle.motion.specs.Checks.{turned_left}

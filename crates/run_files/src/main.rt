@@ -7,9 +7,10 @@ use calls::run_calls;
 use input::{Words, behind_first, read_input};
 use logs::write_log;
 use motion::Refusal;
+use std::process::ExitCode;
 use std::{env, fs};
 
-const HELP: &str = "usage: run [--log LOG] [FILE...]
+const HELP: &str = "usage: run_files [--log LOG] [FILE...]
 
 Reads the files one after the other, or standard input where none is named: the bytes of a system, then those of
 calls. Makes the calls, and prints a line for each: the time after it, with place and drive where a body is read.
@@ -52,7 +53,7 @@ fn record(rt: &HostRuntime, bytes: &[u8], name: &str) -> anyhow::Result<()> {
 /// Makes the calls in the files of all names but the first, which is that of the log.
 fn run_with_log(rt: &HostRuntime, names: &[String]) -> anyhow::Result<Option<Refusal>> {
     let Some(name) = names.first() else {
-        return Err(anyhow!("--log wants the name of a file (run --help tells more)"));
+        return Err(anyhow!("--log wants the name of a file (run_files --help tells more)"));
     };
     let bytes = read_input(rt, behind_first(names))?;
     let refusal = run(rt, bytes.as_slice())?;
@@ -74,7 +75,7 @@ fn start(rt: &HostRuntime) -> anyhow::Result<Option<Refusal>> {
         }
         if first.as_str().starts_with("--") {
             return Err(anyhow!(format!(in rt.alloc();
-                "there is no option {first} (run --help tells more)"
+                "there is no option {first} (run_files --help tells more)"
             )?));
         }
     }
@@ -82,13 +83,14 @@ fn start(rt: &HostRuntime) -> anyhow::Result<Option<Refusal>> {
     run(rt, bytes.as_slice())
 }
 
-fn main(rt: HostRuntime) -> anyhow::Result<()> {
+fn main(rt: HostRuntime) -> ExitCode {
     match start(&rt) {
-        Ok(None) => Ok(()),
-        Ok(Some(_)) => Err(anyhow!("refused")),
+        Ok(None) => ExitCode::SUCCESS,
+        Ok(Some(_)) => ExitCode::FAILURE,
         Err(error) => {
-            eprintln!(rt; "run: {error}")?;
-            Err(error)
+            // Where even this cannot be written, the exit status is all that can tell.
+            let _told = eprintln!(rt; "run_files: {error}").is_ok();
+            ExitCode::FAILURE
         }
     }
 }

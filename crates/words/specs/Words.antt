@@ -1,7 +1,8 @@
 -- Words of k bits, whose sums and differences are taken modulo 2 ^ k: at every width k one definition.
 -- Assumes nothing: these are definitions.
 use Rattle.std.specs.Prelude.{ℕ, ◌+◌, ◌-◌, ◌%◌, ◌^◌, ◌<◌}
-use Rattle.std.proofs.Common.{mod-lt, pow_pos}
+use native.Mathlib.Nat.{mod-lt}
+use lib.Pow.{pow_pos}
 use Rattle.words.specs.Numbers.{Numbers}
 
 -- the sum of two words of k bits, which wraps
