@@ -7,7 +7,7 @@ use Rattle.std.proofs.lemmas.List.{map-set, get_or-set_same, get_or-set_other, g
 use Rattle.std.proofs.lemmas.Slice.{drop-put_mid}
 use Rattle.std.proofs.lemmas.Bool.Decides.{eqb_tells, leb_tells}
 use Rattle.words.specs.Bytes.{number_at}
-use Rattle.words.specs.declared.mass.Mass.{Mass}
+use Rattle.words.specs.Masses.{Mass}
 use Rattle.words.proofs.InBytes.{number_moved}
 use Rattle.motion.specs.Memory.{state_of, held, position_at, momentum_at, state_length}
 use Rattle.motion.specs.Refusals.{good}

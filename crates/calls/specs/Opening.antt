@@ -2,7 +2,7 @@
 -- Assumes nothing: these are definitions.
 use Rattle.std.specs.Prelude.{◌≡◌, ℕ, ◌+◌, ◌*◌, ◌<◌, ◌≤◌, List, ◌++◌, map, length, drop, replicate, Ok, Err, Result, slice_index}
 use Rattle.words.specs.Bytes.{number_at}
-use Rattle.words.specs.declared.mass.Mass.{Mass}
+use Rattle.words.specs.Masses.{Mass}
 use Rattle.motion.specs.Memory.{position_at, momentum_at, state_length}
 use Rattle.motion.specs.Refusals.{Told, good, refused, number_of, place_of}
 use Rattle.motion.specs.Systems.{mass_of}

@@ -10,7 +10,7 @@ use crate::checkpoints::{CHECKPOINTS, checkpoint_size};
 use crate::obeying::check_room;
 use distance::Softening;
 use motion::{Refusal, System};
-use words::{Mass, number_in};
+use words::{Mass, Ranged, number_in};
 
 /// Where the bytes of the first body begin.
 const FIRST_BODY: usize = 9;
@@ -111,12 +111,15 @@ fn read_number(bytes: &[u8], at: usize, size: usize) -> u64
     number_in(&bytes[at..at + size])
 }
 
-/// Takes a number for a softening, if it is in range.
-fn softening_of(number: u64) -> Result<Softening, Refusal>
-    ensures answer { verdict result ≡ ranged (2 ^ 20) (2 ^ 40) number 3 1 }
-    ensures value { IfOk result (λ s. s.value ≡ number) }
+/// Takes a number whose bytes begin at `at`, if it is in the range of its type.
+fn in_range<const LEAST: u64, const MOST: u64>(
+    number: u64,
+    at: usize,
+) -> Result<Ranged<LEAST, MOST>, Refusal>
+    ensures answer { verdict result ≡ ranged LEAST MOST number 3 at }
+    ensures value { IfOk result (λ r. r.value ≡ number) }
 {
-    Softening::new(number).ok_or(Refusal::Range(1))
+    Ranged::new(number).ok_or(Refusal::Range(at))
 }
 
 /// Reads the softening.
@@ -126,15 +129,7 @@ fn read_softening(bytes: &[u8]) -> Result<Softening, Refusal>
     ensures room { OnOk result (body_at 0 ≤ length bytes.now) }
 {
     check_length(bytes, FIRST_BODY)?;
-    softening_of(read_number(bytes, 1, 8))
-}
-
-/// Takes a number for a mass whose bytes begin at `at`, if it is in range.
-fn mass_of(number: u16, at: usize) -> Result<Mass, Refusal>
-    ensures answer { verdict result ≡ ranged 1 1023 number 3 at }
-    ensures value { IfOk result (λ m. m.value ≡ number) }
-{
-    Mass::new(number).ok_or(Refusal::Range(at))
+    in_range(read_number(bytes, 1, 8), 1)
 }
 
 /// Reads the mass of a body, and looks whether its other bytes are there.
@@ -146,7 +141,7 @@ fn read_mass(bytes: &[u8], body: usize) -> Result<Mass, Refusal>
 {
     let at = FIRST_BODY + BODY * body;
     check_length(bytes, at + 2)?;
-    let mass = mass_of(read_number(bytes, at, 2) as u16, at)?;
+    let mass = in_range(read_number(bytes, at, 2), at)?;
     check_length(bytes, at + BODY)?;
     Ok(mass)
 }

@@ -7,11 +7,8 @@ ghost use Rattle.distance.specs.Axes.{by_axis, along};
 ghost use Rattle.distance.specs.Distance.{separation as separation_of, squared_distance, weight as weight_of, Bounded};
 ghost use Rattle.distance.specs.Root.{WholeRoot, whole_root};
 
+pub use words::Softening;
 use words::size_of_signed;
-
-mod softening;
-
-pub use softening::Softening;
 
 /// No whole root of a word is larger.
 const ROOT_MAX: u64 = 0xffff_ffff;
@@ -55,7 +52,7 @@ fn newton(square: u64, guess: u64) -> u64
 }
 
 /// How far two bodies are apart: what the impulse between them is made of.
-#[derive(Clone, Copy)]
+#[derive(Clone, Copy, PartialEq, Eq, Debug)]
 pub struct Distance {
     /// The separation on each axis.
     pub separations: [u64; 3],

@@ -15,14 +15,14 @@ use words::{Mass, difference};
 const HALF: u64 = 1 << 63;
 
 /// A body's mass and its position on the three axes.
-#[derive(Clone, Copy)]
+#[derive(Clone, Copy, PartialEq, Eq, Debug)]
 pub struct Body {
     pub mass: Mass,
     pub position: [u64; 3],
 }
 
 /// What one body gives another in a step.
-#[derive(Clone, Copy)]
+#[derive(Clone, Copy, PartialEq, Eq, Debug)]
 pub struct Impulse {
     /// The impulse on each axis, a word read with sign.
     pub on_axes: [u64; 3],
@@ -38,7 +38,7 @@ pub fn impulse_on(body: Body, other: Body, softening: Softening, start: u64) -> 
 {
     let differences = way_between(body.position, other.position);
     let distance = Distance::new(differences, softening, start);
-    let masses = body.mass.value() as u64 * other.mass.value() as u64;
+    let masses = body.mass.value() * other.mass.value();
     let [d0, d1, d2] = differences;
     let [e0, e1, e2] = distance.separations;
     let on_axes = [
@@ -78,7 +78,7 @@ fn along_axis(difference: u64, separation: u64, weight: u64, masses: u64) -> u64
 fn with_sign_of(difference: u64, size: u64) -> u64
     ensures { result ≡ with_sign_of difference size }
 {
-    let sign = ((difference < HALF) as u64).wrapping_sub((difference > HALF) as u64);
+    let sign = u64::from(difference < HALF).wrapping_sub(u64::from(difference > HALF));
     size.wrapping_mul(sign)
 }
 
@@ -88,7 +88,7 @@ mod tests {
 
     const FAR: u64 = 1 << 60;
 
-    fn body(mass: u16, x: u64, y: u64, z: u64) -> Option<Body> {
+    fn body(mass: u64, x: u64, y: u64, z: u64) -> Option<Body> {
         let mass = Mass::new(mass)?;
         Some(Body {
             mass,

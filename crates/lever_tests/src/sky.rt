@@ -121,7 +121,7 @@ impl Sky {
         };
         let mut masses = Vec::new(heap);
         for body in self.bodies.iter() {
-            let Some(mass) = Mass::new(body.mass) else {
+            let Some(mass) = Mass::new(u64::from(body.mass)) else {
                 return Err(Fail::new("a mass out of range"));
             };
             masses.push(mass)?;

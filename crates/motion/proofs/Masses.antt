@@ -1,6 +1,6 @@
 -- The mass of a body, read from the array of masses.
 use Rattle.std.proofs.Common.{◌≡◌, ℕ, zero, suc, ◌<◌, ◌≤◌, List, [], ◌∷◌, map, length, get_or, take, refl, le_of_suc-le-suc, not-suc-le-zero, arith}
-use Rattle.words.specs.declared.mass.Mass.{Mass}
+use Rattle.words.specs.Masses.{Mass}
 
 pub mass_read : (ms : List Mass) (n b : ℕ) (d : Mass) → b < n → b < length ms → (get_or ms b d).value ≡ get_or (map (λ m. m.value) (take n ms)) b 0
 mass_read [] n b d h k = absurd (not-suc-le-zero k)

@@ -4,7 +4,7 @@ use Rattle.std.specs.Prelude.{◌≡◌, ℕ, List, map, length, take, slice_ind
 use Rattle.std.specs.Int.{w64}
 use Rattle.words.specs.Signed.{divided}
 use Rattle.words.specs.Words.{Word, word, words}
-use Rattle.words.specs.declared.mass.Mass.{Mass}
+use Rattle.words.specs.Masses.{Mass}
 use Rattle.impulse.specs.Impulse.{impulse}
 use Rattle.motion.specs.Bodies.{State, Law, step, step_back}
 use Rattle.motion.specs.declared.system.System.{System}

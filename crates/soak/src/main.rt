@@ -47,7 +47,7 @@ fn random_opening(heap: Global, mut seed: u64) -> anyhow::Result<Opening> {
     };
     let mut masses = Vec::new(heap);
     for _ in 0..System::MOST_BODIES {
-        let Some(mass) = Mass::new((1 + draw(&mut seed) % 1023) as u16) else {
+        let Some(mass) = Mass::new(1 + draw(&mut seed) % 1023) else {
             return Err(anyhow!("a mass out of range"));
         };
         masses.push(mass)?;

@@ -1,10 +1,12 @@
 -- Numbers in bytes, at every width: each byte is one digit to the base 256, so all is shown byte by byte.
-use Rattle.std.proofs.Common.{◌≡◌, ℕ, zero, suc, ◌+◌, ◌-◌, ◌*◌, ◌/◌, ◌%◌, ◌^◌, ◌<◌, ◌≤◌, List, [], ◌∷◌, ◌++◌, length, get_or, take, drop, set, sym, refl, ap, ◌∙◌, add-zero, mod-eq_of_lt, pow-suc, arith}
+use Rattle.std.proofs.Common.{◌≡◌, ℕ, zero, suc, ◌+◌, ◌-◌, ◌*◌, ◌/◌, ◌%◌, ◌^◌, ◌<◌, ◌≤◌, List, [], ◌∷◌, ◌++◌, length, get_or, take, drop, set, reverse, sym, refl, ap, ◌∙◌, add-zero, zero-add, mod-eq_of_lt, pow-suc, arith}
 use native.Mathlib.Nat.{mod-one, one-le-pow, pow-le-pow_right}
 use borrow.Rule.Slice.PartMut.{put_mid}
 use lib.Arith.{mod-mul}
-use Rattle.std.specs.List.{between}
+use Rattle.std.specs.List.{between, fold}
 use Rattle.std.proofs.lemmas.List.Edits.{length-between, get_or-between}
+use Rattle.std.proofs.lemmas.Grind.{reverse_onto}
+use Rattle.std.proofs.lemmas.List.Sums.{fold_push}
 use Rattle.std.proofs.lemmas.List.{append-nil, append_assoc, drop_more, take_all, take_more_set}
 use Rattle.words.specs.Bytes.{number_at, bytes_of}
 use Rattle.words.proofs.Placed.{placed_own}
@@ -92,14 +94,6 @@ number_written k n xs ys at s size room same =
     number_of_bytes k n (put_mid at s xs ys) at
     (λ j h. placed_own at s xs ys room long j (omega arith) ∙ ap (λ zs. get_or zs j 0) (same ∙ ap (λ m. bytes_of m n) size))
 
--- one byte more is read, in front of those from k on
-pub number_more : (n k : ℕ) (bytes : List ℕ) → 0 < k → k ≤ n → number_at (n - (k - 1)) bytes (k - 1) ≡ get_or bytes (k - 1) 0 + 256 * number_at (n - k) bytes k
-unfolding number_at
-number_more n k bytes some within =
-    let left : n - (k - 1) ≡ suc (n - k) = omega arith in
-    let next : k - 1 + 1 ≡ k = omega arith in
-    rw left (ap (λ m. get_or bytes (k - 1) 0 + 256 * number_at (n - k) bytes m) next)
-
 -- of n bytes one more is written: with the bytes of what is left they are as before
 pub bytes_more : (n k left : ℕ) (xs : List ℕ) → k < n → n ≡ length xs →
     take (k + 1) (set xs k (left % 256)) ++ bytes_of (n - (k + 1)) (left / 256) ≡ take k xs ++ bytes_of (n - k) left
@@ -116,3 +110,18 @@ unfolding bytes_of
 bytes_all n k left xs over long =
     let size : n - k ≡ 0 = omega arith in
     ap (λ m. take k xs ++ bytes_of m left) size ∙ append-nil (take k xs) ∙ take_all k xs (omega arith)
+
+-- a byte as the lowest digit of a number
+abbrev pub low_digit : ℕ → ℕ → ℕ
+low_digit n b = (n * 256 % 2 ^ 64 + b) % 2 ^ 64
+
+-- bytes taken from the last to the first, each as the lowest digit, make up their number
+pub number_by-fold : (bytes : List ℕ) → fold low_digit 0 (reverse bytes) ≡ number_at (length bytes) bytes 0 % 2 ^ 64
+unfolding number_at
+number_by-fold [] = refl
+number_by-fold (b ∷ bytes) =
+    let behind : number_at (length bytes) (b ∷ bytes) 1 ≡ number_at (length bytes) bytes 0 =
+    number_moved (length bytes) (b ∷ bytes) bytes 1 0 (λ j h. let next : 1 + j ≡ suc j = omega arith in ap (λ m. get_or (b ∷ bytes) m 0) next ∙ ap (λ m. get_or bytes m 0) (sym (zero-add j))) in
+    let last = ap (fold low_digit 0) (reverse_onto bytes b []) ∙ fold_push low_digit 0 (reverse bytes) b in
+    let others = number_by-fold bytes in
+    last ∙ omega (arith, others, behind)

@@ -6,11 +6,9 @@ ghost use Rattle.words.specs.Bytes.{number_at, bytes_of};
 pub fn number_in(bytes: &[u8]) -> u64
     ensures value { result ≡ number_at (length bytes.now) bytes.now 0 % 2 ^ 64 }
 {
-    let mut number = 0u64;
-    for k in (0..bytes.len()).rev() {
-        number = number.wrapping_mul(256).wrapping_add(bytes[k] as u64);
-    }
-    number
+    bytes.iter().rev().fold(0, |number: u64, byte| {
+        number.wrapping_mul(256).wrapping_add(u64::from(*byte))
+    })
 }
 
 /// Fills a slice with the bytes of a number, low byte first.

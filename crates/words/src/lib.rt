@@ -10,10 +10,10 @@ ghost use Rattle.words.specs.Signed.{signed, size, divided, ReadsSigned};
 ghost use Rattle.words.specs.Words.{words, plus, less};
 
 mod bytes;
-mod mass;
+mod ranged;
 
 pub use bytes::{number_in, write_number};
-pub use mass::Mass;
+pub use ranged::{Mass, Ranged, Softening};
 
 /// Adds two words modulo 2^64.
 pub fn sum(a: u64, b: u64) -> u64
@@ -85,7 +85,7 @@ mod tests {
         assert_eq!(rt; size_of_signed(minus(5)), 5);
     }
 
-    fn quotient(word: u64, mass: u16) -> Option<u64> {
+    fn quotient(word: u64, mass: u64) -> Option<u64> {
         Some(divided_by(word, Mass::new(mass)?))
     }
 
