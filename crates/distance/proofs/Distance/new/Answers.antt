@@ -4,7 +4,7 @@ use Rattle.distance.specs.Axes.{along}
 use Rattle.distance.specs.Distance.{squared_distance, Bounded}
 use Rattle.distance.specs.Root.{whole_root}
 use Rattle.distance.proofs.Axis.{on_each}
-use Rattle.distance.proofs.Bounds.{bounded, product_least, product_most}
+use Rattle.distance.proofs.Bounds.{bounded, product_most}
 use Rattle.distance.proofs.Distance.new.Goals as goal
 
 -- the squared distance of the definition
@@ -26,19 +26,12 @@ root_is c = c.root-root.ensures.value ∙ ap whole_root (squared_is c)
 product_is : (c : goal.After-root-root) → c.squared_distance-squared.result * c.root-root.result ≡ q c * whole_root (q c)
 product_is c = let e = squared_is c in let f = root_is c in cc
 
-least : (c : goal.After-root-root) → 2 ^ 30 ≤ q c * whole_root (q c)
-unfolding q
-least c = product_least (q c) (bounds c).squared_least (bounds c).squared_most
-
 most : (c : goal.After-root-root) → q c * whole_root (q c) ≤ 2 ^ 62
 unfolding q
 most c = product_most (q c) (bounds c).squared_least (bounds c).squared_most
 
 pub overflow_mul-result : goal.overflow_mul-result
 overflow_mul-result c = omega (arith, product_is c, most c)
-
-pub nonzero_div-result : goal.nonzero_div-result
-nonzero_div-result c = omega (arith, product_is c, least c)
 
 pub returns : goal.returns
 unfolding q
