@@ -13,14 +13,19 @@ use Rattle.motion.specs.Changes.{moved, opposite, Kicked, Exchanged, impulse_at}
 use Rattle.motion.specs.Memory.{state_of, position_at}
 use Rattle.motion.specs.Systems.{mass_of}
 use Rattle.motion.proofs.BodyWords.{part_reads, own_part, other_part}
+use Rattle.motion.proofs.Kicks.{impulse_word}
 use Rattle.motion.specs.declared.system.System.{System}
 use Rattle.motion.specs.declared.turn.Direction.{Direction}
 use Rattle.motion.specs.declared.turn.Direction.TheVariants.{Ahead, Behind}
 
 -- to move the other way by f is to move this way by what cancels f
-pub opposite_moves : (direction : Direction) (m f g : ℕ) → f < 2 ^ 64 → plus 64 f g ≡ 0 → moved (opposite direction) m f ≡ moved direction m (g % 2 ^ 64)
-opposite_moves Ahead m f g h e = omega arith
-opposite_moves Behind m f g h e = omega arith
+opposite_moves : (direction : Direction) (m f g : ℕ) → f < 2 ^ 64 → g < 2 ^ 64 → plus 64 f g ≡ 0 → moved (opposite direction) m f ≡ moved direction m g
+opposite_moves Ahead m f g h k e = omega arith
+opposite_moves Behind m f g h k e = omega arith
+
+-- what cancels f, as a word
+cancels_word : (f g : ℕ) → plus 64 f g ≡ 0 → plus 64 f (g % 2 ^ 64) ≡ 0
+cancels_word f g e = omega arith
 
 -- the position of body i, as the law reads it from the state
 module _ (n i : ℕ) (xs : List ℕ) (below : i < n) (words : (k : ℕ) → get_or xs k 0 < 2 ^ 64) where
@@ -45,7 +50,7 @@ impulse_read system xs a i j h k words = λ t.
     (position_read system.count i xs h words t) (position_read system.count j xs k words t) a % 2 ^ 64
 
 -- fs is what the code worked out for bodies of masses m and n at p and q, which are bodies i and j of the system
-module _ (system : System) (direction : Direction) (i j : ℕ) (xs fs p q : List ℕ) (m n : ℕ) (first : i < system.count) (second : j < system.count)
+module _ (system : System) (i j : ℕ) (xs fs p q : List ℕ) (m n : ℕ) (first : i < system.count) (second : j < system.count)
     (words : (k : ℕ) → get_or xs k 0 < 2 ^ 64) (mass : m ≡ mass_of system i) (mass' : n ≡ mass_of system j)
     (here : p ≡ by_axis (position_at xs i)) (there : q ≡ by_axis (position_at xs j))
     (value : fs ≡ by_axis (impulse system.softening.value m n (along p) (along q)))
@@ -64,20 +69,26 @@ module _ (system : System) (direction : Direction) (i j : ℕ) (xs fs p q : List
   pub first_gets : (a : ℕ) → a < 3 → along fs a ≡ impulse_at system xs a i j
   first_gets a h = law_value a h ∙ sym (mod-eq_of_lt (law_pair a h).a_word) ∙ sym (impulse_read system xs a i j first second words)
 
-  -- and body j, the other way, as the law says
-  pub second_gets : (a : ℕ) → a < 3 → (x : ℕ) → moved (opposite direction) x (along fs a) ≡ moved direction x (impulse_at system xs a j i)
-  second_gets a h x =
-      ap (moved (opposite direction) x) (law_value a h)
-      ∙ opposite_moves direction x _ _ (law_pair a h).a_word (law_pair a h).cancel
-      ∙ ap (moved direction x) (sym (impulse_read system xs a j i second first words))
+  -- and what body j gets by the law cancels it
+  pub second_cancels : (a : ℕ) → a < 3 → plus 64 (along fs a) (impulse_at system xs a j i) ≡ 0
+  second_cancels a h =
+      (λ t. plus 64 (law_value a h t) (impulse_read system xs a j i second first words t))
+      ∙ cancels_word _ _ (law_pair a h).cancel
 
 -- xs are the words before; ys and zs what was written to the parts of body i and then of body j
-module _ (system : System) (direction : Direction) (i j : ℕ) (xs ys zs fs : List ℕ) (s t : ℕ) (first : i < system.count) (second : j < i)
+module _ (system : System) (direction other : Direction) (i j : ℕ) (xs ys zs fs : List ℕ) (s t : ℕ) (first : i < system.count) (second : j < i)
     (long : length xs ≡ 6 * system.count) (six : length ys ≡ 6) (six' : length zs ≡ 6) (s-is : s ≡ 6) (t-is : t ≡ 6)
     (kick : Kicked direction (along fs) (between (6 * i) (6 * i + 6) xs) ys)
-    (kick' : Kicked (opposite direction) (along fs) (between (6 * j) (6 * j + 6) (put_mid (6 * i) s xs ys)) zs)
+    (turned : other ≡ opposite direction)
+    (kick' : Kicked other (along fs) (between (6 * j) (6 * j + 6) (put_mid (6 * i) s xs ys)) zs)
     (gives : (a : ℕ) → a < 3 → along fs a ≡ impulse_at system xs a i j)
-    (takes : (a : ℕ) → a < 3 → (m : ℕ) → moved (opposite direction) m (along fs a) ≡ moved direction m (impulse_at system xs a j i)) where
+    (cancels : (a : ℕ) → a < 3 → plus 64 (along fs a) (impulse_at system xs a j i) ≡ 0) where
+  -- what is taken from body j is what the law gives it
+  takes : (a : ℕ) → a < 3 → (m : ℕ) → moved other m (along fs a) ≡ moved direction m (impulse_at system xs a j i)
+  takes a h m =
+      let small : along fs a < 2 ^ 64 = rw (gives a h) (impulse_word system xs a i j) in
+      (λ t. moved (turned t) m (along fs a)) ∙ opposite_moves direction m _ _ small (impulse_word system xs a j i) (cancels a h)
+
   middle : List ℕ
   middle = put_mid (6 * i) s xs ys
 
@@ -133,7 +144,7 @@ module _ (system : System) (direction : Direction) (i j : ℕ) (xs ys zs fs : Li
     second = λ a h.
         let k : 2 * a + 1 < 6 = omega arith in
         second_part (2 * a + 1) k ∙ kick'.momenta a h
-        ∙ ap (λ m. moved (opposite direction) m (along fs a)) (second_was (2 * a + 1) k) ∙ takes a h _;
+        ∙ ap (λ m. moved other m (along fs a)) (second_was (2 * a + 1) k) ∙ takes a h _;
     others = λ b ne ne' a h.
         let k : 2 * a + 1 < 6 = omega arith in
         other_parts b ne' (2 * a + 1) k ∙ old_parts b ne (2 * a + 1) k;

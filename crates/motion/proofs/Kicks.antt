@@ -123,6 +123,6 @@ kicked_more system direction i xs ys zs all row =
       rest = λ b h a k. row.rest b (omega arith) (omega arith) a k ∙ all.rest b (omega arith) a k;
     }
 
--- the roots of the first i rows and of row i are within those of all pairs
-pub row_room : (i n s len : ℕ) → s + s + i ≡ i * i → i < n → len ≡ work_length n → s + i ≤ len
-row_room i n s len e h l = let p = mul-le (i + 1) i n (n - 1) (omega arith) (omega arith) in omega arith
+-- the roots of row i are among those that the rows before it leave
+pub row_room : (i n rest len : ℕ) → rest + rest + i * i ≡ len + len + i → i < n → len ≡ work_length n → i ≤ rest
+row_room i n rest len e h l = let p = mul-le (i + 1) i n (n - 1) (omega arith) (omega arith) in omega arith

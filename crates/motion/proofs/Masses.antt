@@ -1,12 +1,11 @@
 -- The mass of a body, read from the array of masses.
-use Rattle.std.proofs.Common.{◌≡◌, ℕ, zero, suc, ◌<◌, ◌≤◌, List, [], ◌∷◌, map, length, get_or, take, refl, le_of_suc-le-suc, not-suc-le-zero, arith}
+use Rattle.std.proofs.Common.{◌≡◌, ℕ, zero, suc, ◌<◌, ◌≤◌, List, [], ◌∷◌, map, length, get_or, take, sym, refl, ap, ◌∙◌, le_of_suc-le-suc, not-suc-le-zero, arith}
+use Rattle.std.proofs.lemmas.List.{get_or-map}
 use Rattle.words.specs.Masses.{Mass}
 
-pub mass_read : (ms : List Mass) (n b : ℕ) (d : Mass) → b < n → b < length ms → (get_or ms b d).value ≡ get_or (map (λ m. m.value) (take n ms)) b 0
-mass_read [] n b d h k = absurd (not-suc-le-zero k)
-mass_read (m ∷ ms) zero b d h k = absurd (not-suc-le-zero h)
-mass_read (m ∷ ms) (suc n) zero d h k = refl
-mass_read (m ∷ ms) (suc n) (suc b) d h k = mass_read ms n b d (le_of_suc-le-suc h) (le_of_suc-le-suc k)
+pub mass_read : (ms all : List Mass) (n b : ℕ) (m : Mass) → b < length ms → m ≡ get_or ms b m → ms ≡ take n all → m.value ≡ get_or (map (λ m. m.value) (take n all)) b 0
+mass_read ms all n b m h is e =
+    ap (λ m. m.value) is ∙ sym (get_or-map (λ m. m.value) ms b m 0 h) ∙ ap (λ l. get_or (map (λ m. m.value) l) b 0) e
 
 -- there is no mass behind the last body
 pub mass_beyond : (ms : List Mass) (n b : ℕ) → n ≤ b → get_or (map (λ m. m.value) (take n ms)) b 0 ≡ 0

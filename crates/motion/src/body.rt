@@ -19,8 +19,8 @@ pub(crate) fn kick(words: &mut [u64], impulse: [u64; 3], direction: Direction)
     requires { length words.old ≡ 6 }
     ensures { Kicked direction (along impulse) words.old words.new }
 {
-    for a in 0..3 {
-        words[2 * a + 1] = direction.moved(words[2 * a + 1], impulse[a]);
+    for (a, by) in impulse.iter().enumerate() {
+        words[2 * a + 1] = direction.moved(words[2 * a + 1], *by);
     }
 }
 
@@ -29,6 +29,7 @@ pub(crate) fn drift(words: &mut [u64], mass: Mass, direction: Direction)
     requires { length words.old ≡ 6 }
     ensures { Drifted direction mass.value words.old words.new }
 {
+    // By number: a proof knows nothing of the words that are written through `as_chunks_mut::<2>()`.
     for a in 0..3 {
         let way = divided_by(words[2 * a + 1], mass);
         words[2 * a] = direction.moved(words[2 * a], way);

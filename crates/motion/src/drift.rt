@@ -1,17 +1,21 @@
-//! All bodies move by their momenta.
+//! Bodies move by their momenta.
 ghost use Rattle.std.specs.Prelude.{◌≡◌, ◌*◌, length};
-ghost use Rattle.motion.specs.Changes.{AllDrifted, everyone};
+ghost use Rattle.motion.specs.Changes.{AllDrifted};
 
-use crate::System;
 use crate::body::drift;
-use crate::turn::Direction;
+use crate::members::Members;
+use crate::mover::Mover;
 
-/// Changes the positions of all bodies by their momenta.
-pub(crate) fn drift_all(system: &System, state: &mut [u64], direction: Direction)
-    requires { length state.old ≡ 6 * system.now.count }
-    ensures { AllDrifted system.now direction everyone system.now.count state.old state.new }
-{
-    for b in 0..system.count {
-        drift(&mut state[6 * b..6 * b + 6], system.masses[b], direction);
+impl Mover {
+    /// Changes the positions of these bodies by their momenta.
+    pub(crate) fn drift<M: Members>(&self, members: &M, state: &mut [u64])
+        requires { length state.old ≡ 6 * self.now.system.count }
+        ensures { AllDrifted self.now.system self.now.direction (M.has members.now) self.now.system.count state.old state.new }
+    {
+        for (b, mass) in self.system.masses().iter().enumerate() {
+            if members.has(b) {
+                drift(&mut state[6 * b..6 * b + 6], *mass, self.direction);
+            }
+        }
     }
 }

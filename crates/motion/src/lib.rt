@@ -8,8 +8,7 @@ ghost use Rattle.motion.specs.Outcomes.{Outcome, ShareOutcome, Timed};
 ghost use Rattle.motion.specs.Systems.{Made, step_of, back_of, stepped};
 ghost use Rattle.motion.specs.Travel.{turned, travel as travelled};
 
-use crate::share::advance_share;
-use crate::steps::make_turns;
+use crate::mover::Mover;
 use distance::Softening;
 use words::Mass;
 
@@ -17,6 +16,8 @@ mod body;
 mod checks;
 mod drift;
 mod kick;
+mod members;
+mod mover;
 mod refusal;
 mod share;
 mod steps;
@@ -72,7 +73,7 @@ impl System {
         if work.len() < pairs {
             return Err(Refusal::WorkShort);
         }
-        make_turns(self, turns, &mut state[0..words], &mut work[0..pairs]);
+        self.make_turns(turns, &mut state[0..words], &mut work[0..pairs]);
         Ok(())
     }
 
@@ -102,7 +103,11 @@ impl System {
             return Err(Refusal::WorkShort);
         }
         work[0..words].copy_from_slice(&state[0..words]);
-        advance_share(self, share, direction, &mut work[0..words]);
+        let mover = Mover {
+            system: *self,
+            direction,
+        };
+        mover.advance_share(share, &mut work[0..words]);
         Ok(())
     }
 
@@ -136,9 +141,7 @@ mod tests {
 
     #[test]
     fn a_pair_goes_there_and_back(rt: HostRuntime) -> Result<(), Fail> {
-        let Some(system) = pair() else {
-            return Err(Fail::new("no pair"));
-        };
+        let system = pair().ok_or("no pair")?;
         // Two words behind the state, which stay.
         let mut state = [0, 0, 0, 0, 0, 0, FAR, 0, 0, 0, 0, 0, 8, 9];
         let mut work = [u64::MAX, 7];
@@ -155,9 +158,7 @@ mod tests {
 
     #[test]
     fn short_slices_are_refused(rt: HostRuntime) -> Result<(), Fail> {
-        let Some(system) = pair() else {
-            return Err(Fail::new("no pair"));
-        };
+        let system = pair().ok_or("no pair")?;
         let mut short = [1; 11];
         let mut state = [1; 12];
         assert_eq!(rt; system.step(&mut short, &mut []), Err(Refusal::StateShort));

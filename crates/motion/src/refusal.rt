@@ -2,6 +2,7 @@
 ghost use Rattle.std.specs.Prelude.{◌≡◌, Some};
 ghost use Rattle.motion.specs.Refusals.{number_of, place_of, refusal_line};
 
+use std::error::Error;
 use std::fmt;
 
 /// Why something is refused.
@@ -86,3 +87,5 @@ impl fmt::Display for Refusal {
         write!(f, "refused {number} at {place}")
     }
 }
+
+impl Error for Refusal {}

@@ -5,49 +5,61 @@ ghost use Rattle.motion.specs.Systems.{stepped, step_of, back_of};
 ghost use Rattle.motion.specs.Travel.{again, travel};
 
 use crate::System;
-use crate::drift::drift_all;
-use crate::kick::kick_all;
+use crate::members::Everyone;
+use crate::mover::Mover;
 use crate::turn::{Direction, Turn};
 
-/// Makes a step, or a step back.
-fn advance(system: &System, state: &mut [u64], roots: &mut [u64], direction: Direction)
-    requires state { length state.old ≡ 6 * system.now.count }
-    requires roots { length roots.old ≡ work_length system.now.count }
-    ensures { state_of system.now.count state.new ≡ stepped direction system.now (state_of system.now.count state.old) }
-{
-    match direction {
-        Direction::Ahead => {
-            kick_all(system, state, roots, Direction::Ahead);
-            drift_all(system, state, Direction::Ahead);
+impl Mover {
+    /// Makes a step, or a step back.
+    fn advance(&self, state: &mut [u64], roots: &mut [u64])
+        requires state { length state.old ≡ 6 * self.now.system.count }
+        requires roots { length roots.old ≡ work_length self.now.system.count }
+        ensures { state_of self.now.system.count state.new ≡ stepped self.now.direction self.now.system (state_of self.now.system.count state.old) }
+    {
+        match self.direction {
+            Direction::Ahead => {
+                self.kick_all(state, roots);
+                self.drift(&Everyone, state);
+            }
+            Direction::Behind => {
+                self.drift(&Everyone, state);
+                self.kick_all(state, roots);
+            }
         }
-        Direction::Behind => {
-            drift_all(system, state, Direction::Behind);
-            kick_all(system, state, roots, Direction::Behind);
+    }
+
+    /// Makes so many steps, or so many steps back.
+    fn repeat(&self, count: u64, state: &mut [u64], roots: &mut [u64])
+        requires state { length state.old ≡ 6 * self.now.system.count }
+        requires roots { length roots.old ≡ work_length self.now.system.count }
+        ensures { state_of self.now.system.count state.new ≡ again (stepped self.now.direction self.now.system) count (state_of self.now.system.count state.old) }
+    {
+        for _ in 0..count {
+            self.advance(state, roots);
         }
     }
 }
 
-/// Makes so many steps, or so many steps back.
-fn repeat(system: &System, count: u64, state: &mut [u64], roots: &mut [u64], direction: Direction)
-    requires state { length state.old ≡ 6 * system.now.count }
-    requires roots { length roots.old ≡ work_length system.now.count }
-    ensures { state_of system.now.count state.new ≡ again (stepped direction system.now) count (state_of system.now.count state.old) }
-{
-    for _ in 0..count {
-        advance(system, state, roots, direction);
-    }
-}
-
-/// Makes a row of turns.
-pub(crate) fn make_turns(system: &System, turns: &[Turn], state: &mut [u64], roots: &mut [u64])
-    requires state { length state.old ≡ 6 * system.now.count }
-    requires roots { length roots.old ≡ work_length system.now.count }
-    ensures { state_of system.now.count state.new ≡ travel (step_of system.now) (back_of system.now) turns.now (state_of system.now.count state.old) }
-{
-    for turn in turns {
-        match *turn {
-            Turn::Forward(count) => repeat(system, count, state, roots, Direction::Ahead),
-            Turn::Back(count) => repeat(system, count, state, roots, Direction::Behind),
+impl System {
+    /// Makes a row of turns.
+    pub(crate) fn make_turns(&self, turns: &[Turn], state: &mut [u64], roots: &mut [u64])
+        requires state { length state.old ≡ 6 * self.now.count }
+        requires roots { length roots.old ≡ work_length self.now.count }
+        ensures { state_of self.now.count state.new ≡ travel (step_of self.now) (back_of self.now) turns.now (state_of self.now.count state.old) }
+    {
+        let ahead = Mover {
+            system: *self,
+            direction: Direction::Ahead,
+        };
+        let behind = Mover {
+            system: *self,
+            direction: Direction::Behind,
+        };
+        for turn in turns {
+            match *turn {
+                Turn::Forward(count) => ahead.repeat(count, state, roots),
+                Turn::Back(count) => behind.repeat(count, state, roots),
+            }
         }
     }
 }

@@ -5,14 +5,14 @@ ghost use Rattle.motion.specs.Changes.{moved as moved_by, opposite as opposite_o
 use words::{difference, sum};
 
 /// A turn of the lever: so many steps forward, or so many back.
-#[derive(Clone, Copy)]
+#[derive(Clone, Copy, PartialEq, Eq, Debug)]
 pub enum Turn {
     Forward(u64),
     Back(u64),
 }
 
 /// Where time runs to.
-#[derive(Clone, Copy)]
+#[derive(Clone, Copy, PartialEq, Eq, Debug)]
 pub enum Direction {
     Ahead,
     Behind,

@@ -1,0 +1,13 @@
+-- Each turn makes one more row; the roots of row i are the first that are left.
+use Rattle.std.proofs.Common.{arith}
+use Rattle.motion.proofs.Kicks.{kicked_more, row_room}
+use Rattle.motion.proofs.mover.Mover.kick_all.Goals as goal
+
+pub split_at_mut-row-requires : goal.split_at_mut-row-requires
+split_at_mut-row-requires c = row_room _ c.args.self.now.system.count _ _ c.loop-i.invariant.left (omega arith) c.requires.roots
+
+pub loop-i-preserved : goal.loop-i-preserved
+loop-i-preserved c = record {
+  done = kicked_more _ _ _ _ _ _ c.loop-i.invariant.done c.exchange_row.ensures;
+  left = omega (arith, c.loop-i.invariant.left, c.split_at_mut-row.ensures.back_len);
+}

@@ -1,0 +1,18 @@
+-- Each turn of the loop is one step more.
+use Rattle.std.proofs.Common.{◌≡◌, sym, ap, ◌∙◌, arith}
+use Rattle.motion.specs.Memory.{state_of}
+use Rattle.motion.specs.Travel.{again}
+use Rattle.motion.specs.Systems.{stepped}
+use Rattle.motion.proofs.Rows.{again_none, again_one_more}
+use Rattle.motion.proofs.mover.Mover.repeat.Goals as goal
+
+pub loop-init : goal.loop-init
+loop-init c = sym (again_none _ _)
+
+pub loop-preserved : goal.loop-preserved
+loop-preserved c = c.advance.ensures ∙ ap (stepped c.args.self.now.direction c.args.self.now.system) c.loop.invariant ∙ sym (again_one_more _ _ _)
+
+pub returns : goal.returns
+returns c =
+    let all : c.loop.counter ≡ c.args.count = omega arith in
+    c.loop.invariant ∙ ap (λ k. again (stepped c.args.self.now.direction c.args.self.now.system) k (state_of c.args.self.now.system.count c.args.state.now)) all

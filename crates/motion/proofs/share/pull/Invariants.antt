@@ -1,6 +1,0 @@
--- The bodies below `j` have given their impulse.
-use Rattle.motion.specs.Changes.{Pulled}
-use Rattle.motion.proofs.share.pull.Given as goal
-
-abbrev pub invariant-loop-j : goal.invariant-loop-j
-invariant-loop-j l = Pulled l.system l.direction l.b l.j l.initial.state l.state

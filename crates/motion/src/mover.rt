@@ -1,0 +1,10 @@
+//! A system whose time runs ahead or back.
+use crate::System;
+use crate::turn::Direction;
+
+/// Moves the bodies of a system in one direction of time, in words that are lent.
+#[derive(Clone, Copy)]
+pub(crate) struct Mover {
+    pub(crate) system: System,
+    pub(crate) direction: Direction,
+}
