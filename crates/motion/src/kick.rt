@@ -50,16 +50,13 @@ impl Mover {
         requires state { length state.old ≡ 6 * self.now.system.count }
         ensures { Exchanged self.now.system self.now.direction i j state.old state.new }
     {
+        let direction = self.direction;
         let impulse = self.system.impulse(i, j, state, start);
-        kick(
-            &mut state[6 * i..6 * i + 6],
-            impulse.on_axes,
-            self.direction,
-        );
+        kick(&mut state[6 * i..6 * i + 6], impulse.on_axes, direction);
         kick(
             &mut state[6 * j..6 * j + 6],
             impulse.on_axes,
-            self.direction.opposite(),
+            direction.opposite(),
         );
         impulse.root
     }
