@@ -1,6 +1,6 @@
 -- A state cut off the front of a longer slice: it is the state of the whole slice, and what lies behind stays.
-use Rattle.std.proofs.Common.{◌≡◌, ℕ, ◌+◌, ◌*◌, ◌<◌, ◌≤◌, Bool, List, ◌++◌, length, get_or, take, refl, ap, ◌∙◌, arith, get_or-take, rules, le-ltb}
-use Rattle.std.proofs.lemmas.List.{places}
+use Rattle.std.proofs.Common.{◌≡◌, ℕ, ◌+◌, ◌*◌, ◌<◌, ◌≤◌, Bool, List, ◌++◌, length, get_or, take, drop, refl, ap, ◌∙◌, arith, get_or-take, rules, le-ltb}
+use Rattle.std.proofs.lemmas.List.{places, drop_at}
 use Rattle.motion.specs.Changes.{ShareHolds}
 use Rattle.motion.specs.Systems.{WordsState}
 use Rattle.motion.specs.Memory.{state_of, position_at, momentum_at}
@@ -36,3 +36,7 @@ state_of_front n xs m e = same_front n (take m xs) xs (λ k h. get_or-take m xs 
 -- slices that are long enough are not refused
 pub long_enough : (m n state work : ℕ) → m ≤ state → n ≤ work → good tt ≡ lent m n state work
 long_enough m n state work h k = rw (le-ltb state m h) (rw (le-ltb work n k) refl)
+
+-- what lies behind the words in use stays
+pub behind_stays : (m : ℕ) (ys zs xs : List ℕ) → length ys ≡ m → zs ≡ drop m xs → drop m (ys ++ zs) ≡ drop m xs
+behind_stays m ys zs xs h e = drop_at ys zs m h ∙ e

@@ -65,15 +65,14 @@ impl System {
         ensures outcome { Outcome self.now (travelled (step_of self.now) (back_of self.now) turns.now) result state.old state.new work.old work.new }
         ensures timed { OnOk result (Timed self.now turns.now (state_of self.now.count state.old) (state_of self.now.count state.new)) }
     {
-        let words = 6 * self.count;
         let pairs = self.count * (self.count - 1) / 2;
-        if state.len() < words {
+        let Some((words, _behind)) = state.split_at_mut_checked(6 * self.count) else {
             return Err(Refusal::StateShort);
-        }
-        if work.len() < pairs {
+        };
+        let Some((roots, _behind)) = work.split_at_mut_checked(pairs) else {
             return Err(Refusal::WorkShort);
-        }
-        self.make_turns(turns, &mut state[0..words], &mut work[0..pairs]);
+        };
+        self.make_turns(turns, words, roots);
         Ok(())
     }
 
@@ -95,19 +94,17 @@ impl System {
     ) -> Result<(), Refusal>
         ensures { ShareOutcome self.now (stepped direction self.now) share.now result state.now work.old work.new }
     {
-        let words = 6 * self.count;
-        if state.len() < words {
-            return Err(Refusal::StateShort);
-        }
-        if work.len() < words {
+        let needed = 6 * self.count;
+        let words = state.get(..needed).ok_or(Refusal::StateShort)?;
+        let Some((copy, _behind)) = work.split_at_mut_checked(needed) else {
             return Err(Refusal::WorkShort);
-        }
-        work[0..words].copy_from_slice(&state[0..words]);
+        };
+        copy.copy_from_slice(words);
         let mover = Mover {
             system: *self,
             direction,
         };
-        mover.advance_share(share, &mut work[0..words]);
+        mover.advance_share(share, copy);
         Ok(())
     }
 
