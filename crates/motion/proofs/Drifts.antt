@@ -11,10 +11,6 @@ use Rattle.motion.specs.declared.turn.Direction.{Direction}
 use Rattle.motion.proofs.BodyWords.{part_reads, own_part, other_part}
 
 module _ (system : System) (direction : Direction) (who : ℕ → Bool) where
-  -- no body yet
-  pub drifted_none : (xs : List ℕ) → AllDrifted system direction who 0 xs xs
-  drifted_none xs = record { momenta = λ _ _ _. refl; done = λ b h named a k. absurd (omega arith); rest = λ _ _ _ _. refl }
-
   module _ (b : ℕ) (xs ys : List ℕ) (all : AllDrifted system direction who b xs ys) where
     -- all bodies below b, with body b, to whose part zs was written
     pub drifted_more : (zs : List ℕ) (m s : ℕ) → 6 * b + 6 ≤ length ys → length zs ≡ 6 → s ≡ 6 → m ≡ mass_of system b →

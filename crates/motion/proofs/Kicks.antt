@@ -102,10 +102,6 @@ row_more system direction i j xs ys zs second row one =
       rest = λ b h ne a k. one.others b ne (omega arith) a k ∙ row.rest b (omega arith) ne a k;
     }
 
--- no row yet
-pub kicked_none : (system : System) (direction : Direction) (xs : List ℕ) → AllKicked system direction 0 xs xs
-kicked_none system direction xs = record { positions = λ _ _ _. refl; done = λ b h a k. absurd (omega arith); rest = λ _ _ _ _. refl }
-
 -- all rows below i, with row i
 pub kicked_more : (system : System) (direction : Direction) (i : ℕ) (xs ys zs : List ℕ) →
     AllKicked system direction i xs ys → RowExchanged system direction i i ys zs → AllKicked system direction (i + 1) xs zs
@@ -122,7 +118,3 @@ kicked_more system direction i xs ys zs all row =
       ];
       rest = λ b h a k. row.rest b (omega arith) (omega arith) a k ∙ all.rest b (omega arith) a k;
     }
-
--- the roots of row i are among those that the rows before it leave
-pub row_room : (i n rest len : ℕ) → rest + rest + i * i ≡ len + len + i → i < n → len ≡ work_length n → i ≤ rest
-row_room i n rest len e h l = let p = mul-le (i + 1) i n (n - 1) (omega arith) (omega arith) in omega arith

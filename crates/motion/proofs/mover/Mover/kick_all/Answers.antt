@@ -1,10 +1,7 @@
 -- Each turn makes one more row; the roots of row i are the first that are left.
 use Rattle.std.proofs.Common.{arith}
-use Rattle.motion.proofs.Kicks.{kicked_more, row_room}
+use Rattle.motion.proofs.Kicks.{kicked_more}
 use Rattle.motion.proofs.mover.Mover.kick_all.Goals as goal
-
-pub split_at_mut-row-requires : goal.split_at_mut-row-requires
-split_at_mut-row-requires c = row_room _ c.args.self.now.system.count _ _ c.loop-i.invariant.left (omega arith) c.requires.roots
 
 pub loop-i-preserved : goal.loop-i-preserved
 loop-i-preserved c = record {

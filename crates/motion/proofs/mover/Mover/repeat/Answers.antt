@@ -11,8 +11,3 @@ loop-init c = sym (again_none _ _)
 
 pub loop-preserved : goal.loop-preserved
 loop-preserved c = c.advance.ensures ∙ ap (stepped c.args.self.now.direction c.args.self.now.system) c.loop.invariant ∙ sym (again_one_more _ _ _)
-
-pub returns : goal.returns
-returns c =
-    let all : c.loop.counter ≡ c.args.count = omega arith in
-    c.loop.invariant ∙ ap (λ k. again (stepped c.args.self.now.direction c.args.self.now.system) k (state_of c.args.self.now.system.count c.args.state.now)) all

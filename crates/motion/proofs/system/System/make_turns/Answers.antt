@@ -25,9 +25,3 @@ loop-turn-preserved c =
       | in-Back w ↦ ap (state_of system.count) w.state-is ∙ w.repeat-in-Back.ensures ∙ ap (again (back_of system) w.in-Back.count) so_far
           ∙ sym (next (Back w.in-Back.count) start c.loop-turn-test.true w.in-Back.is)
     ]
-
-pub returns : goal.returns
-returns c =
-    c.loop-turn.invariant
-    ∙ ap (λ ts. travel (step_of c.args.self.now) (back_of c.args.self.now) ts (state_of c.args.self.now.count c.args.state.now))
-    (take_all c.loop-turn.turn-index c.args.turns.now (omega arith))
