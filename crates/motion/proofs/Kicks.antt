@@ -1,12 +1,11 @@
 -- Rows of exchanges add up: each body meets the others in ascending order, so the sum by its definition is met term by term.
-use Rattle.std.proofs.Common.{◌≡◌, ℕ, suc, ◌+◌, ◌-◌, ◌*◌, ◌%◌, ◌^◌, ◌<◌, ◌≤◌, cond, List, get_or, sym, refl, ap, ◌∙◌, inl, inr, arith}
-use Rattle.std.proofs.lemmas.Nat.{mul-le}
+use Rattle.std.proofs.Common.{◌≡◌, ℕ, suc, ◌+◌, ◌%◌, ◌^◌, ◌<◌, cond, List, get_or, sym, refl, ap, ◌∙◌, inl, inr, arith}
 use Rattle.std.proofs.lemmas.Bool.Decides.{leb_tells, eqb_tells}
 use Rattle.words.specs.Words.{Word, word, words}
 use Rattle.impulse.proofs.Pairs.{impulse_level}
 use Rattle.motion.specs.Bodies.{sum_of}
 use Rattle.motion.specs.Changes.{moved, impulse_at, gathered, Exchanged, RowExchanged, AllKicked}
-use Rattle.motion.specs.Memory.{state_of, position_at, momentum_at, inside, held, work_length}
+use Rattle.motion.specs.Memory.{state_of, position_at, momentum_at, inside, held}
 use Rattle.motion.specs.Systems.{mass_of, system_law}
 use Rattle.motion.specs.declared.system.System.{System}
 use Rattle.motion.specs.declared.turn.Direction.{Direction}

@@ -29,7 +29,7 @@ pub(crate) fn drift(words: &mut [u64], mass: Mass, direction: Direction)
     requires { length words.old ≡ 6 }
     ensures { Drifted direction mass.value words.old words.new }
 {
-    // By number: a proof knows nothing of the words that are written through `as_chunks_mut::<2>()`.
+    // By number: of the words that are written through `as_chunks_mut` a proof knows none.
     for a in 0..3 {
         let way = divided_by(words[2 * a + 1], mass);
         words[2 * a] = direction.moved(words[2 * a], way);

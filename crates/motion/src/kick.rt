@@ -80,6 +80,7 @@ impl Mover {
         ensures { AllKicked self.now.system self.now.direction self.now.system.count state.old state.new }
     {
         let mut rest = roots;
+        // By number: parts of the lent words are lent on.
         for i in 0..self.system.count {
             let (row, later) = rest.split_at_mut(i);
             self.exchange_row(i, state, row);

@@ -25,7 +25,7 @@ impl Mover {
         requires { length state.old ≡ 6 * self.now.system.count }
         ensures { ShareHolds self.now.system.count share.now (stepped self.now.direction self.now.system (state_of self.now.system.count state.old)) state.new }
     {
-        // Not in one function with `advance`: time back needs the positions of all bodies before the share's impulses.
+        // Not one function with `advance`: its contract over a closure that kicks would be longer than the two orders.
         match self.direction {
             Direction::Ahead => {
                 self.kick_share(share, state);
@@ -59,6 +59,7 @@ impl Mover {
         requires state { length state.old ≡ 6 * self.now.system.count }
         ensures { Pulled self.now.system self.now.direction b self.now.system.count state.old state.new }
     {
+        // By number: parts of the lent words are lent on.
         for j in 0..self.system.count {
             self.receive(b, j, state);
         }
@@ -69,6 +70,7 @@ impl Mover {
         requires { length state.old ≡ 6 * self.now.system.count }
         ensures { ShareKicked self.now.system self.now.direction share.now self.now.system.count state.old state.new }
     {
+        // By number: parts of the lent words are lent on.
         for b in 0..self.system.count {
             if in_share(share, b) {
                 self.pull(b, state);

@@ -1,7 +1,5 @@
 -- Each turn of the loop is one step more.
-use Rattle.std.proofs.Common.{◌≡◌, sym, ap, ◌∙◌, arith}
-use Rattle.motion.specs.Memory.{state_of}
-use Rattle.motion.specs.Travel.{again}
+use Rattle.std.proofs.Common.{sym, ap, ◌∙◌}
 use Rattle.motion.specs.Systems.{stepped}
 use Rattle.motion.proofs.Rows.{again_none, again_one_more}
 use Rattle.motion.proofs.mover.Mover.repeat.Goals as goal

@@ -1,11 +1,10 @@
 -- Each turn of the loop is one turn of the lever more.
-use Rattle.std.proofs.Common.{sym, refl, ap, ◌∙◌, arith}
+use Rattle.std.proofs.Common.{sym, refl, ap, ◌∙◌}
 use Rattle.motion.specs.Memory.{state_of}
 use Rattle.motion.specs.Systems.{step_of, back_of}
 use Rattle.motion.specs.Travel.{again, travel}
 use Rattle.motion.specs.declared.turn.Turn.TheVariants.{Forward, Back}
 use Rattle.motion.proofs.Rows.{travel_more}
-use Rattle.std.proofs.lemmas.List.{take_all}
 use Rattle.motion.proofs.system.System.make_turns.Goals as goal
 use Rattle.motion.proofs.system.System.make_turns.Goals.{in-Forward, in-Back}
 
