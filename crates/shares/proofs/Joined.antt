@@ -9,8 +9,8 @@ use Rattle.shares.specs.Rows.{word_at, row_body, rows_in, RowOf, Sent, members}
 use Rattle.shares.specs.Taking.{EachOnce}
 use Rattle.shares.specs.Together.{RowsOf}
 use Rattle.shares.proofs.Members.{members_within, member_at, members_both}
-use Rattle.shares.proofs.Placed.{placed_own, placed_other}
-use Rattle.shares.proofs.Written.{word_moved, word_stays}
+use Rattle.words.proofs.Placed.{placed_own, placed_other}
+use Rattle.words.proofs.InBytes.{number_moved, number_stays}
 
 -- of each body the words of the computer that has it
 abbrev pub mixed : List Bool → WordsState → WordsState → WordsState
@@ -34,7 +34,7 @@ module _ (n : ℕ) (first second : List Bool) (s t : WordsState) (rows one two :
   row_first b h e =
       let m = members_within first b n e h in
       let word : (from : ℕ) → from + 8 ≤ 49 → word_at rows (49 * members first b + from) ≡ word_at one (49 * members first b + from) =
-      λ from f. word_stays rows one (49 * members first b + from) (λ k l r. front k (omega arith)) in
+      λ from f. number_stays 8 rows one (49 * members first b + from) (λ k l r. front k (omega arith)) in
       record {
         body = front (49 * members first b) (omega arith) ∙ (sent b h e).body;
         momenta = λ a k. word (1 + 8 * a) (omega arith) ∙ (sent b h e).momenta a k ∙ ap (λ c. (cond c (s.momentum b a) (t.momentum b a)).value) (sym e);
@@ -49,7 +49,7 @@ module _ (n : ℕ) (first second : List Bool) (s t : WordsState) (rows one two :
       let byte : (k : ℕ) → k < 49 → get_or rows (49 * (members first n + members second b) + k) 0 ≡ get_or two (49 * members second b + k) 0 =
       λ k l. ap (λ i. get_or rows i 0) (omega arith) ∙ behind (49 * members second b + k) (omega arith) in
       let word : (from : ℕ) → from + 8 ≤ 49 → word_at rows (49 * (members first n + members second b) + from) ≡ word_at two (49 * members second b + from) =
-      λ from f. word_moved rows two (49 * (members first n + members second b) + from) (49 * members second b + from)
+      λ from f. number_moved 8 rows two (49 * (members first n + members second b) + from) (49 * members second b + from)
       (λ k l. ap (λ i. get_or rows i 0) (omega arith) ∙ byte (from + k) (omega arith) ∙ ap (λ i. get_or two i 0) (omega arith)) in
       record {
         body = ap (λ i. get_or rows i 0) (omega arith) ∙ byte 0 (omega arith) ∙ ap (λ i. get_or two i 0) (omega arith) ∙ (sent' b h there).body;

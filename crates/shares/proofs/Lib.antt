@@ -1,9 +1,8 @@
 pub mod Accepted
-pub mod Digits
+pub mod Chunks
 pub mod Joined
 pub mod Members
 pub mod Merging
-pub mod Placed
 pub mod SentRows
 pub mod TakenRows
-pub mod Written
+pub mod Words

@@ -1,6 +1,9 @@
 -- The bodies of a share, counted.
-use Rattle.std.proofs.Common.{◌≡◌, ℕ, zero, suc, ◌+◌, ◌*◌, ◌<◌, ◌≤◌, Bool, true, false, cond, not, List, sym, refl, ap, ◌∙◌, inl, inr, not-suc-le-zero, add-one, arith}
-use Rattle.std.proofs.lemmas.Bool.Decides.{eqb_tells}
+use Rattle.std.proofs.Common.{◌≡◌, ℕ, zero, suc, ◌+◌, ◌*◌, ◌<◌, ◌≤◌, Bool, true, false, cond, not, List, length, take, sym, refl, ap, ◌∙◌, inl, inr, not-suc-le-zero, add-one, arith}
+use Rattle.std.specs.List.{count_by, filter}
+use Rattle.std.proofs.lemmas.Bool.Decides.{eqb_tells, leb_tells}
+use Rattle.std.proofs.lemmas.List.{get_or_past, take_all}
+use Rattle.std.proofs.lemmas.List.Sums.{count_by_more_yes, count_by_more_no, length-filter}
 use Rattle.motion.specs.Changes.{member}
 use Rattle.shares.specs.Rows.{members}
 
@@ -77,3 +80,21 @@ members_both first second (suc n) others = by (members_both first second n (λ b
         let a : members first (suc n) ≡ members first n = ap (members first) (sym (add-one n)) ∙ members_out first n e in
         let b : members second (suc n) ≡ members second n + 1 = ap (members second) (sym (add-one n)) ∙ members_in second n (others n (omega arith) ∙ ap not e) in
         omega arith
+
+counted : (share : List Bool) (n : ℕ) → count_by (λ has. has) (take n share) ≡ members share n
+counted share zero = sym (members_none share)
+counted share (suc n) = elim (leb_tells (length share) n) [
+  | inl t ↦
+      ap (count_by (λ has. has)) (take_all (suc n) share (omega arith) ∙ sym (take_all n share t.1)) ∙ counted share n
+      ∙ sym (members_out share n (get_or_past share n false t.1)) ∙ ap (members share) (add-one n)
+  | inr t ↦ ap (λ m. count_by (λ has. has) (take m share)) (sym (add-one n)) ∙ more (counted share n) (member share n) refl t.1 ∙ ap (members share) (add-one n)
+]
+  where
+    more : count_by (λ has. has) (take n share) ≡ members share n → (c : Bool) → member share n ≡ c → n < length share →
+        count_by (λ has. has) (take (n + 1) share) ≡ members share (n + 1)
+    more below true e h = count_by_more_yes (λ has. has) share n false h e ∙ ap (λ k. k + 1) below ∙ sym (members_in share n e)
+    more below false e h = count_by_more_no (λ has. has) share n false h e ∙ below ∙ sym (members_out share n e)
+
+-- the members below n are those that the first n elements name
+pub members_named : (share : List Bool) (n : ℕ) → length (filter (λ has. has) (take n share)) ≡ members share n
+members_named share n = length-filter (λ has. has) (take n share) ∙ counted share n

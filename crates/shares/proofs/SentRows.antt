@@ -1,8 +1,6 @@
 -- Rows that are written one behind the other: a new row leaves those before it as they are.
 use Rattle.std.proofs.Common.{◌≡◌, ℕ, ◌+◌, ◌*◌, ◌<◌, ◌≤◌, Bool, true, List, ◌++◌, length, get_or, drop, sym, ap, ◌∙◌, inl, inr, add-zero, add_assoc, arith, rules, le-ltb}
 use borrow.Rule.Slice.PartMut.{put_mid}
-use Rattle.std.specs.List.{between}
-use Rattle.std.proofs.lemmas.List.Edits.{get_or-between}
 use Rattle.std.proofs.lemmas.List.{places}
 use Rattle.std.proofs.lemmas.Bool.Decides.{eqb_tells}
 use Rattle.motion.specs.Changes.{member, ShareHolds}
@@ -11,8 +9,8 @@ use Rattle.motion.specs.Systems.{WordsState}
 use Rattle.motion.specs.Memory.{state_length}
 use Rattle.shares.specs.Rows.{word_at, row_body, RowWritten, RowsWritten, Sent, members, sending}
 use Rattle.shares.proofs.Members.{members_within}
-use Rattle.shares.proofs.Placed.{placed_own, placed_other}
-use Rattle.shares.proofs.Written.{word_moved, word_stays}
+use Rattle.words.proofs.Placed.{placed_own, placed_other}
+use Rattle.words.proofs.InBytes.{number_moved, number_stays}
 
 pub rows_none : (share : List Bool) (words rows : List ℕ) → RowsWritten share words 0 rows
 rows_none share words rows = record {
@@ -23,8 +21,8 @@ rows_none share words rows = record {
 
 -- ys was written at `at`, the place of the row of body b
 module _ (share : List Bool) (words rows ys : List ℕ) (b at s : ℕ) (all : RowsWritten share words b rows) (place : at ≡ 49 * members share b)
-    (s-is : s ≡ 49) (room : at + s ≤ length rows) (long : length ys ≡ s) (room' : 6 * b + 6 ≤ length words)
-    (one : RowWritten (between (6 * b) (6 * b + 6) words) b ys) where
+    (s-is : s ≡ 49) (room : at + s ≤ length rows) (long : length ys ≡ s) (six : List ℕ)
+    (part : (i : ℕ) → i < 6 → get_or six i 0 ≡ get_or words (6 * b + i) 0) (one : RowWritten six b ys) where
   after : List ℕ
   after = put_mid at s rows ys
 
@@ -33,7 +31,7 @@ module _ (share : List Bool) (words rows ys : List ℕ) (b at s : ℕ) (all : Ro
   unfolding after
   new_word from h =
       ap (λ k. word_at (put_mid at s rows ys) (k + from)) (sym place)
-      ∙ word_moved (put_mid at s rows ys) ys (at + from) from
+      ∙ number_moved 8 (put_mid at s rows ys) ys (at + from) from
       (λ k l. ap (λ j. get_or (put_mid at s rows ys) j 0) (add_assoc at from k) ∙ placed_own at s rows ys room long (from + k) (omega arith))
 
   new_body : row_body after (members share b) ≡ b
@@ -47,7 +45,7 @@ module _ (share : List Bool) (words rows ys : List ℕ) (b at s : ℕ) (all : Ro
   old_byte c k h in-share l = let m = members_within share c b in-share h in placed_other at s rows ys room long k (inl (omega arith))
 
   old_word : (c from : ℕ) → c < b → member share c ≡ true → from + 8 ≤ 49 → word_at after (49 * members share c + from) ≡ word_at rows (49 * members share c + from)
-  old_word c from h in-share f = word_stays after rows (49 * members share c + from) (λ k l m. old_byte c k h in-share (omega arith))
+  old_word c from h in-share f = number_stays 8 after rows (49 * members share c + from) (λ k l m. old_byte c k h in-share (omega arith))
 
   pub rows_more : RowsWritten share words (b + 1) (put_mid at s rows ys)
   unfolding after
@@ -57,11 +55,11 @@ module _ (share : List Bool) (words rows ys : List ℕ) (b at s : ℕ) (all : Ro
       | inr t ↦ old_byte c (49 * members share c) (omega arith) in-share (omega arith) ∙ all.numbers c (omega arith) in-share
     ];
     momenta = λ c h in-share a k. elim (eqb_tells c b) [
-      | inl t ↦ rw t.1 (new_word (1 + 8 * a) (omega arith) ∙ one.momenta a k ∙ get_or-between words (6 * b) (6 * b + 6) (2 * a + 1) 0 (omega arith))
+      | inl t ↦ rw t.1 (new_word (1 + 8 * a) (omega arith) ∙ one.momenta a k ∙ part (2 * a + 1) (omega arith))
       | inr t ↦ old_word c (1 + 8 * a) (omega arith) in-share (omega arith) ∙ all.momenta c (omega arith) in-share a k
     ];
     positions = λ c h in-share a k. elim (eqb_tells c b) [
-      | inl t ↦ rw t.1 (new_word (25 + 8 * a) (omega arith) ∙ one.positions a k ∙ get_or-between words (6 * b) (6 * b + 6) (2 * a) 0 (omega arith))
+      | inl t ↦ rw t.1 (new_word (25 + 8 * a) (omega arith) ∙ one.positions a k ∙ part (2 * a) (omega arith))
       | inr t ↦ old_word c (25 + 8 * a) (omega arith) in-share (omega arith) ∙ all.positions c (omega arith) in-share a k
     ];
   }
@@ -97,7 +95,7 @@ sent n share s words whole rows ys zs size size_is long written holds same behin
     front b k h in-share l = let m = members_within share b n in-share h in let p : k < length ys = omega arith in search (rules, places)
 
     word : (b from : ℕ) → b < n → member share b ≡ true → from + 8 ≤ 49 → word_at (ys ++ zs) (49 * members share b + from) ≡ word_at ys (49 * members share b + from)
-    word b from h in-share f = word_stays (ys ++ zs) ys (49 * members share b + from) (λ k l m. front b k h in-share (omega arith))
+    word b from h in-share f = number_stays 8 (ys ++ zs) ys (49 * members share b + from) (λ k l m. front b k h in-share (omega arith))
 
 -- slices that are long enough are not refused
 pub sending_all : (n : ℕ) (share : List Bool) (state work rows size : ℕ) → size ≡ 49 * members share n → state_length n ≤ state → state_length n ≤ work → size ≤ rows →

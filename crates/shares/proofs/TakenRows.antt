@@ -1,14 +1,13 @@
 -- Rows that are looked through and then written: each body has one row, so no write spoils another.
 use Rattle.std.proofs.Common.{◌≡◌, ℕ, zero, suc, ◌+◌, ◌-◌, ◌*◌, ◌%◌, ◌<◌, ◌≤◌, Bool, true, false, cond, ◌&&◌, ◌||◌, eqb, ◌≢◌, ◌⊎◌, List, ◌++◌, length, get_or, drop, set, sym, refl, ap, ◌∙◌, inl, inr, true≢false, add_assoc, arith, length-set, get_or-set_other, get_or-set_same, rules, le-ltb, lt-ltb, eq-eqb}
 use borrow.Rule.Slice.PartMut.{put_mid}
-use Rattle.std.specs.List.{between}
-use Rattle.std.proofs.lemmas.List.Edits.{get_or-between}
 use Rattle.std.proofs.lemmas.List.{places}
 use Rattle.std.proofs.lemmas.Bool.Decides.{eqb_tells}
 use Rattle.motion.proofs.BodyWords.{own_part, other_part}
-use Rattle.shares.proofs.Written.{word_moved}
+use Rattle.words.proofs.InBytes.{number_moved}
 use Rattle.motion.specs.Refusals.{good, refused}
-use Rattle.shares.specs.Rows.{word_at, row_body, rows_in}
+use Rattle.shares.specs.Rows.{word_at, row_body, rows_in, rows_of}
+use Rattle.shares.proofs.Chunks.{get_or-rows_of}
 use Rattle.shares.specs.Taking.{seen, all_seen, faulty, ending, rows_from, checking, taking, Distinct, EachOnce, RowTaken, RowsTaken, Taken}
 
 -- two words written for axis a
@@ -116,9 +115,13 @@ module _ (n : ℕ) (rows : List ℕ) where
   pub ending_good : length rows % 49 ≡ 0 → all_seen rows (rows_in rows) n ≡ true → ending n rows ≡ good tt
   ending_good whole all = rw (eq-eqb (length rows % 49) 0 whole) (rw all refl)
 
+  -- a body has no row
+  pub ending_missing : length rows % 49 ≡ 0 → all_seen rows (rows_in rows) n ≡ false → ending n rows ≡ refused 9 (rows_in rows)
+  ending_missing whole missing = rw (eq-eqb (length rows % 49) 0 whole) (rw missing refl)
+
 -- ys was written to the part of the body of row k
-module _ (n k s : ℕ) (rows st ys : List ℕ) (once : EachOnce n rows) (row : k < rows_in rows) (long : length st ≡ 6 * n) (six : length ys ≡ 6) (s-is : s ≡ 6)
-    (all : RowsTaken rows k st) (one : RowTaken (between (49 * k) (49 * k + 49) rows) ys) where
+module _ (n k s : ℕ) (rows st ys : List ℕ) (once : EachOnce n rows) (row : k < rows_in rows) (long : 6 * n ≤ length st) (six : length ys ≡ 6) (s-is : s ≡ 6)
+    (all : RowsTaken rows k st) (d : List ℕ) (one : RowTaken (get_or (rows_of rows) k d) ys) where
   room : 6 * row_body rows k + 6 ≤ length st
   room = let h = once.distinct.below k row in omega arith
 
@@ -128,9 +131,9 @@ module _ (n k s : ℕ) (rows st ys : List ℕ) (once : EachOnce n rows) (row : k
   old : (j : ℕ) → j < k → (i : ℕ) → i < 6 → get_or (put_mid (6 * row_body rows k) s st ys) (6 * row_body rows j + i) 0 ≡ get_or st (6 * row_body rows j + i) 0
   old j h = other_part st (row_body rows k) room ys six s s-is (row_body rows j) (once.distinct.apart j k h row)
 
-  read : (from : ℕ) → from + 8 ≤ 49 → word_at (between (49 * k) (49 * k + 49) rows) from ≡ word_at rows (49 * k + from)
-  read from h = word_moved (between (49 * k) (49 * k + 49) rows) rows from (49 * k + from)
-      (λ i l. get_or-between rows (49 * k) (49 * k + 49) (from + i) 0 (omega arith) ∙ ap (λ j. get_or rows j 0) (sym (add_assoc (49 * k) from i)))
+  read : (from : ℕ) → from + 8 ≤ 49 → word_at (get_or (rows_of rows) k d) from ≡ word_at rows (49 * k + from)
+  read from h = number_moved 8 (get_or (rows_of rows) k d) rows from (49 * k + from)
+      (λ i l. get_or-rows_of rows k (from + i) d row (omega arith) ∙ ap (λ j. get_or rows j 0) (sym (add_assoc (49 * k) from i)))
 
   pub taken_more : RowsTaken rows (k + 1) (put_mid (6 * row_body rows k) s st ys)
   taken_more = record {

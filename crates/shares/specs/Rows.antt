@@ -1,17 +1,16 @@
 -- The rows that computers send each other: 49 bytes for each body, its number, three momenta, three positions.
 -- Assumes nothing: these are definitions.
 use Rattle.std.specs.Prelude.{◌≡◌, ℕ, zero, suc, ◌+◌, ◌*◌, ◌/◌, ◌<◌, Bool, true, cond, List, length, drop, nat_lt, slice_index, slice_index_or}
+use Rattle.std.specs.Simd.{first_chunks}
+use Rattle.words.specs.Bytes.{number_at}
 use Rattle.motion.specs.Changes.{member}
 use Rattle.motion.specs.Memory.{position_at, momentum_at, state_length}
 use Rattle.motion.specs.Refusals.{Told, good, refused}
 use Rattle.motion.specs.Systems.{WordsState}
 
 -- the word of the eight bytes from `at` on, low byte first
-unfoldable pub word_at : List ℕ → ℕ → ℕ
-word_at bytes at =
-    slice_index bytes at + slice_index bytes (at + 1) * 256 + slice_index bytes (at + 2) * 65536 + slice_index bytes (at + 3) * 16777216
-    + slice_index bytes (at + 4) * 4294967296 + slice_index bytes (at + 5) * 1099511627776 + slice_index bytes (at + 6) * 281474976710656
-    + slice_index bytes (at + 7) * 72057594037927936
+abbrev pub word_at : List ℕ → ℕ → ℕ
+word_at bytes at = number_at 8 bytes at
 
 -- row k: the body that it is of, its momentum and its position along axis a
 abbrev pub row_body : List ℕ → ℕ → ℕ
@@ -26,6 +25,9 @@ row_position bytes k a = word_at bytes (49 * k + (25 + 8 * a))
 -- the whole rows in so many bytes
 abbrev pub rows_in : List ℕ → ℕ
 rows_in bytes = length bytes / 49
+
+abbrev pub rows_of : List ℕ → List (List ℕ)
+rows_of bytes = first_chunks 49 (rows_in bytes) bytes
 
 -- Row k is that of body b in the state s.
 pub record RowOf (s : WordsState) (b : ℕ) (bytes : List ℕ) (k : ℕ) : Type 0 where

@@ -10,11 +10,10 @@ ghost use Rattle.shares.specs.Rows.{Sent, sending};
 ghost use Rattle.shares.specs.Taking.{Taken, taking};
 ghost use Rattle.shares.specs.Together.{Together, Shared, RoomLeft, RowsOf, merged, lent_together};
 
-use crate::rows::{ROW, complement, count_members, write_rows};
+use crate::rows::{ROW, count_members, write_rows};
 use crate::taking::{check_rows, take_rows};
 use motion::{Direction, Refusal, System};
 
-mod bytes;
 mod rows;
 mod taking;
 
@@ -52,7 +51,7 @@ pub fn work_out(
         return Err(Refusal::RowsShort);
     }
     system.step_share(share, direction, state, work)?;
-    write_rows(share, count, &work[0..words], &mut rows[0..needed]);
+    write_rows(share, &work[..words], &mut rows[..needed]);
     Ok(needed)
 }
 
@@ -68,7 +67,7 @@ pub fn take_in(system: &System, rows: &[u8], state: &mut [u64]) -> Result<(), Re
         return Err(Refusal::StateShort);
     }
     check_rows(rows, count)?;
-    take_rows(rows, count, &mut state[0..words]);
+    take_rows(rows, &mut state[..words]);
     Ok(())
 }
 
@@ -122,8 +121,8 @@ fn share_step(
     ensures room { MatchResult result (λ _. RoomLeft system.now.count work.old work.new rows.old rows.new) (λ _. ⊥) }
 {
     let size = gather(system, shared, first, second, work, rows)?;
-    take_in(system, &rows[0..size], first)?;
-    take_in(system, &rows[0..size], second)?;
+    take_in(system, &rows[..size], first)?;
+    take_in(system, &rows[..size], second)?;
     Ok(())
 }
 
@@ -144,8 +143,7 @@ fn gather(
     ensures room { MatchResult result (λ _. RoomLeft system.now.count work.old work.new rows.old rows.new) (λ _. ⊥) }
 {
     let share = shared.first;
-    let mut others = [false; 64];
-    complement(&share, &mut others);
+    let others = share.map(|member| !member);
     let sent = work_out(system, &share, shared.direction, first, work, rows)?;
     let more = work_out(
         system,
@@ -206,9 +204,7 @@ mod tests {
 
     #[test]
     fn shares_hold_one_state_there_and_back(rt: HostRuntime) -> Result<(), Fail> {
-        let Some(system) = pair() else {
-            return Err(Fail::new("no pair"));
-        };
+        let system = pair().ok_or("no pair")?;
         // Two words behind the state, which stay.
         let mut state = [0, 0, 0, 0, 0, 0, FAR, 0, 0, 0, 0, 0, 8, 9];
         let mut alone = state;
@@ -224,9 +220,7 @@ mod tests {
 
     #[test]
     fn a_share_sends_49_bytes_for_each_body(rt: HostRuntime) -> Result<(), Fail> {
-        let Some(system) = pair() else {
-            return Err(Fail::new("no pair"));
-        };
+        let system = pair().ok_or("no pair")?;
         let state = [0, 0, 0, 0, 0, 0, FAR, 0, 0, 0, 0, 0];
         let mut work = [0; 12];
         let mut rows = [7; 99];
@@ -255,9 +249,7 @@ mod tests {
 
     #[test]
     fn short_slices_are_refused(rt: HostRuntime) -> Result<(), Fail> {
-        let Some(system) = pair() else {
-            return Err(Fail::new("no pair"));
-        };
+        let system = pair().ok_or("no pair")?;
         let state = [1; 12];
         let mut work = [2; 12];
         let mut rows = [3; 97];
@@ -302,9 +294,7 @@ mod tests {
 
     #[test]
     fn wrong_rows_are_refused(rt: HostRuntime) -> Result<(), Fail> {
-        let Some(system) = pair() else {
-            return Err(Fail::new("no pair"));
-        };
+        let system = pair().ok_or("no pair")?;
         let mut state = [5; 12];
         let mut rows = [0; 98];
         assert_eq!(rt; take_in(&system, &rows, &mut state), Err(Refusal::Row(1)));
@@ -331,9 +321,7 @@ mod tests {
 
     #[test]
     fn two_computers_hold_the_state_of_one(rt: HostRuntime) -> Result<(), Fail> {
-        let Some(system) = pair() else {
-            return Err(Fail::new("no pair"));
-        };
+        let system = pair().ok_or("no pair")?;
         let mut first = [0, 5, 7, 0, 0, 0, FAR, 0, 0, 0, 9, 0];
         let mut second = first;
         let mut alone = first;

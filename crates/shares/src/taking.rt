@@ -1,48 +1,35 @@
 //! Rows that come in: looked through first, then written.
-ghost use Rattle.std.specs.Prelude.{◌≡◌, ◌*◌, ◌≤◌, length, MatchResult, OnOk};
+ghost use Rattle.std.specs.Prelude.{◌≡◌, ℕ, ◌*◌, ◌/◌, ◌==◌, List, length, slice_index, MatchResult, OnOk};
+ghost use Rattle.std.specs.List.{list_any, list_all, range_with_len};
 ghost use Rattle.motion.specs.Refusals.{told, refused, number_of, place_of};
-ghost use Rattle.shares.specs.Rows.{rows_in};
-ghost use Rattle.shares.specs.Taking.{seen, all_seen, ending, checking, Distinct, EachOnce, RowTaken, RowsTaken};
+ghost use Rattle.shares.specs.Rows.{rows_in, rows_of};
+ghost use Rattle.shares.specs.Taking.{ending, checking, Distinct, EachOnce, RowTaken, RowsTaken};
 
-use crate::bytes::read_word;
 use crate::rows::ROW;
 use motion::Refusal;
+use words::number_in;
 
-/// Tells whether one of the first `count` rows is that of a body.
-fn seen_in(rows: &[u8], count: usize, body: usize) -> bool
-    requires { 49 * count ≤ length rows.now }
-    ensures { result ≡ seen rows.now count body }
+/// Tells whether one of these rows is that of a body.
+fn seen_in(rows: &[[u8; ROW]], body: usize) -> bool
+    ensures { result ≡ list_any (λ row. slice_index row 0 == body) rows.now }
 {
-    let mut found = false;
-    for k in 0..count {
-        found = found | (rows[ROW * k] as usize == body);
-    }
-    found
+    rows.iter().any(|row| usize::from(row[0]) == body)
 }
 
-/// Tells whether each of the first `bodies` has one of the first `count` rows.
-fn all_seen_in(rows: &[u8], count: usize, bodies: usize) -> bool
-    requires { 49 * count ≤ length rows.now }
-    ensures { result ≡ all_seen rows.now count bodies }
+/// Tells whether each of the first `bodies` has one of these rows.
+fn all_seen_in(rows: &[[u8; ROW]], bodies: usize) -> bool
+    ensures { result ≡ list_all (λ body. list_any (λ row. slice_index row 0 == body) rows.now) (range_with_len 0 bodies) }
 {
-    let mut all = true;
-    for b in 0..bodies {
-        all = all & seen_in(rows, count, b);
-    }
-    all
+    (0..bodies).all(|body| seen_in(rows, body))
 }
 
 /// Looks for a row of a body that does not exist or had a row before.
-fn check_bodies(rows: &[u8], total: usize, count: usize) -> Result<(), Refusal>
-    requires { total ≡ rows_in rows.now }
-    ensures { MatchResult result (λ _. (checking count rows.now ≡ ending count rows.now) × Distinct count rows.now total) (λ e. refused (number_of e) (place_of e) ≡ checking count rows.now) }
+fn check_bodies(rows: &[[u8; ROW]], count: usize) -> Result<(), Refusal>
+    ensures { (bytes : List ℕ) → rows.now ≡ rows_of bytes → MatchResult result (λ _. (checking count bytes ≡ ending count bytes) × Distinct count bytes (rows_in bytes)) (λ e. refused (number_of e) (place_of e) ≡ checking count bytes) }
 {
-    for k in 0..total {
-        let body = rows[ROW * k] as usize;
-        if body >= count {
-            return Err(Refusal::Row(k));
-        }
-        if seen_in(rows, k, body) {
+    for (k, row) in rows.iter().enumerate() {
+        let body = usize::from(row[0]);
+        if body >= count || seen_in(&rows[..k], body) {
             return Err(Refusal::Row(k));
         }
     }
@@ -50,44 +37,40 @@ fn check_bodies(rows: &[u8], total: usize, count: usize) -> Result<(), Refusal>
 }
 
 /// Looks whether each of the first `count` bodies has exactly one row.
-pub(crate) fn check_rows(rows: &[u8], count: usize) -> Result<(), Refusal>
-    ensures answer { told result ≡ checking count rows.now }
-    ensures once { OnOk result (EachOnce count rows.now) }
+pub(crate) fn check_rows(bytes: &[u8], count: usize) -> Result<(), Refusal>
+    ensures answer { told result ≡ checking count bytes.now }
+    ensures once { OnOk result (EachOnce count bytes.now) }
 {
-    let total = rows.len() / ROW;
-    check_bodies(rows, total, count)?;
-    if rows.len() % ROW != 0 {
-        return Err(Refusal::Length(rows.len()));
+    let (rows, rest) = bytes.as_chunks::<ROW>();
+    check_bodies(rows, count)?;
+    if !rest.is_empty() {
+        return Err(Refusal::Length(bytes.len()));
     }
-    if !all_seen_in(rows, total, count) {
-        return Err(Refusal::Row(total));
+    if !all_seen_in(rows, count) {
+        return Err(Refusal::Row(rows.len()));
     }
     Ok(())
 }
 
 /// Writes a row into a body's six words.
-fn take_row(row: &[u8], words: &mut [u64])
-    requires row { length row.now ≡ 49 }
-    requires words { length words.old ≡ 6 }
+fn take_row(row: &[u8; ROW], words: &mut [u64])
+    requires { length words.old ≡ 6 }
     ensures { RowTaken row.now words.new }
 {
+    // The axis is counted, since it says where a word stands in both slices.
     for a in 0..3 {
-        words[2 * a + 1] = read_word(row, 1 + 8 * a);
-        words[2 * a] = read_word(row, 25 + 8 * a);
+        words[2 * a + 1] = number_in(&row[1 + 8 * a..9 + 8 * a]);
+        words[2 * a] = number_in(&row[25 + 8 * a..33 + 8 * a]);
     }
 }
 
 /// Writes rows into the words of their bodies.
-pub(crate) fn take_rows(rows: &[u8], count: usize, state: &mut [u64])
-    requires once { EachOnce count rows.now }
-    requires state { length state.old ≡ 6 * count }
-    ensures { RowsTaken rows.now (rows_in rows.now) state.new }
+pub(crate) fn take_rows(bytes: &[u8], state: &mut [u64])
+    requires { EachOnce (length state.old / 6) bytes.now }
+    ensures { RowsTaken bytes.now (rows_in bytes.now) state.new }
 {
-    for k in 0..rows.len() / ROW {
-        let body = rows[ROW * k] as usize;
-        take_row(
-            &rows[ROW * k..ROW * k + ROW],
-            &mut state[6 * body..6 * body + 6],
-        );
+    for row in bytes.as_chunks::<ROW>().0 {
+        let body = usize::from(row[0]);
+        take_row(row, &mut state[6 * body..6 * body + 6]);
     }
 }

@@ -1,14 +1,7 @@
 -- Both take in rows that hold each body once, so neither refuses them, and both have what they carry.
-use Rattle.std.proofs.Common.{◌≡◌, ℕ, ◌-◌, List, take, subst, arith}
-use Rattle.motion.specs.Systems.{WordsState}
-use Rattle.shares.specs.Together.{RowsOf}
 use Rattle.shares.proofs.Accepted.{never, rows_accepted, state_taken}
 use Rattle.shares.proofs.Merging.{merged_outside}
 use Rattle.shares.proofs.share_step.Goals as goal
-
--- the part that is lent on has the gathered rows
-whole : (n size : ℕ) (s : WordsState) (rows : List ℕ) → RowsOf n s (take size rows) → RowsOf n s (take (size - 0) rows)
-whole n size s rows all = let e : size ≡ size - 0 = omega arith in subst (λ k. RowsOf n s (take k rows)) e all
 
 pub returns-in_err-size : goal.returns-in_err-size
 returns-in_err-size c = absurd c.in_err-size.ensures.rows
@@ -16,20 +9,20 @@ returns-in_err-size c = absurd c.in_err-size.ensures.rows
 pub returns-in_err-take_in : goal.returns-in_err-take_in
 returns-in_err-take_in c =
     let n = c.args.system.now.count in
-    let rows = whole n _ _ c.gather.new.rows c.in_ok-size.ensures.rows.1 in
+    let rows = c.in_ok-size.ensures.rows.1 in
     absurd (never _ _ _ _ c.in_err-take_in.ensures.answer (rows_accepted n _ _ _ rows c.requires.first))
 
 pub returns-in_err-take_in-2 : goal.returns-in_err-take_in-2
 returns-in_err-take_in-2 c =
     let n = c.args.system.now.count in
-    let rows = whole n _ _ c.gather.new.rows c.in_ok-size.ensures.rows.1 in
+    let rows = c.in_ok-size.ensures.rows.1 in
     absurd (never _ _ _ _ c.in_err-take_in-2.ensures.answer (rows_accepted n _ _ _ rows c.requires.second))
 
 pub returns : goal.returns
 returns c =
     let system = c.args.system.now in
     let n = system.count in
-    let rows = whole n _ _ c.gather.new.rows c.in_ok-size.ensures.rows.1 in
+    let rows = c.in_ok-size.ensures.rows.1 in
     let one = c.in_ok-take_in.ensures.state in
     let two = c.in_ok-take_in-2.ensures.state in
     let none = merged_outside system c.args.shared c.args.first.now c.args.second.now in

@@ -1,17 +1,16 @@
--- Each body of the share counts one.
-use Rattle.std.proofs.Common.{sym, ◌∙◌, arith}
-use Rattle.shares.proofs.Members.{members_none, members_in, members_out}
+-- What is counted are the elements that name a member.
+use Rattle.std.proofs.Common.{◌∙◌, rules, tests}
+use Rattle.std.proofs.lemmas.Iterator.{YieldsList-from_slice, YieldsList-from_take}
+use Rattle.std.proofs.lemmas.Iterator.Consumers.{YieldsList-at, YieldsList-from_filter, count_from_yields_List}
+use Rattle.shares.proofs.Members.{members_named}
 use Rattle.shares.proofs.rows.count_members.Goals as goal
-use Rattle.shares.proofs.rows.count_members.Goals.{then-in_share, else-in_share}
 
-pub loop-b-init : goal.loop-b-init
-loop-b-init c = (sym (members_none _), omega arith)
-
-pub loop-b-preserved : goal.loop-b-preserved
-loop-b-preserved c =
+pub returns-clause-value : goal.returns-clause-value
+returns-clause-value c =
     let share = c.args.share.now in
-    let b = c.loop-b.b in
-    elim c.if-in_share.branch [
-      | then-in_share w ↦ let m = members_in share b (sym c.in_share.ensures ∙ w.if-in_share.true) in (omega (arith, w.total-is), omega (arith, w.total-is))
-      | else-in_share w ↦ let m = members_out share b (sym c.in_share.ensures ∙ w.if-in_share.false) in (omega (arith, w.total-is), omega (arith, w.total-is))
-    ]
+    let n = c.args.count in
+    count_from_yields_List c.filter.result _ c.count.ensures.ran
+    (YieldsList-from_filter _ (λ has. has)
+    (YieldsList-at c.filter.ensures.source (YieldsList-from_take n (YieldsList-at c.take.ensures.source (YieldsList-from_slice share (cc))) c.take.ensures.count))
+    c.filter.ensures.closure (λ x r q k. search (rules, tests)))
+    ∙ members_named share n
