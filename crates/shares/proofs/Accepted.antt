@@ -1,5 +1,6 @@
 -- Rows that hold each body once are told nothing, and what they carry is the state after them.
-use Rattle.std.proofs.Common.{◌≡◌, ℕ, zero, suc, ◌+◌, ◌*◌, ◌%◌, ◌^◌, ◌<◌, ◌≤◌, Bool, true, false, cond, ◌&&◌, ◌||◌, eqb, ◌⊎◌, List, sym, refl, ap, ◌∙◌, inl, inr, mod-eq_of_lt, arith, eq-eqb, ne_eqb}
+use Rattle.std.proofs.Common.{◌≡◌, ℕ, zero, suc, ◌+◌, ◌*◌, ◌%◌, ◌^◌, ◌<◌, ◌≤◌, true, false, cond, ◌&&◌, ◌||◌, eqb, ◌⊎◌, List, sym, refl, ap, ◌∙◌, inl, inr, mod-eq_of_lt, arith, eq-eqb, ne_eqb}
+use Rattle.std.proofs.Math.Bool.{or-true}
 use Rattle.std.proofs.lemmas.Bool.Decides.{eqb_tells}
 use Rattle.words.specs.Words.{Word, word}
 use Rattle.words.proofs.Wrapping.{same_word}
@@ -12,16 +13,12 @@ use Rattle.shares.specs.Taking.{seen, all_seen, rows_from, checking, taking, Eac
 use Rattle.shares.specs.Together.{RowsOf}
 use Rattle.shares.proofs.TakenRows.{not_faulty, ending_good, taking_rows}
 
-or_right : (x : Bool) → (x || true) ≡ true
-or_right true = refl
-or_right false = refl
-
 -- a body with a row is seen, and one without is not
 seen_there : (rows : List ℕ) (k b j : ℕ) → j < k → row_body rows j ≡ b → seen rows k b ≡ true
 unfolding seen
 seen_there rows zero b j h e = absurd (omega arith)
 seen_there rows (suc k) b j h e = elim (eqb_tells j k) [
-  | inl t ↦ ap (λ y. seen rows k b || y) (eq-eqb (row_body rows k) b (ap (row_body rows) (sym t.1) ∙ e)) ∙ or_right (seen rows k b)
+  | inl t ↦ ap (λ y. seen rows k b || y) (eq-eqb (row_body rows k) b (ap (row_body rows) (sym t.1) ∙ e)) ∙ or-true (seen rows k b)
   | inr t ↦ ap (λ x. x || eqb (row_body rows k) b) (seen_there rows k b j (omega arith) e)
 ]
 

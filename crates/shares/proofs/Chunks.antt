@@ -1,5 +1,6 @@
 -- The whole rows of bytes, each of its own: byte i of row k is byte 49 * k + i of all.
-use Rattle.std.proofs.Common.{◌≡◌, ℕ, zero, suc, ◌+◌, ◌*◌, ◌<◌, ◌≤◌, Bool, true, false, ◌||◌, ◌&&◌, eqb, List, [], length, get_or, take, drop, sym, refl, ap, ◌∙◌, add-one, add-zero, zero-add, mul-suc, arith, get_or-take}
+use Rattle.std.proofs.Common.{◌≡◌, ℕ, zero, suc, ◌+◌, ◌*◌, ◌<◌, ◌≤◌, Bool, ◌||◌, ◌&&◌, eqb, List, [], length, get_or, take, drop, sym, refl, ap, ◌∙◌, add-one, add-zero, zero-add, mul-suc, arith, get_or-take}
+use Rattle.std.proofs.Math.Bool.{and_assoc, and-true}
 use Rattle.std.specs.Simd.{first_chunks}
 use Rattle.std.specs.List.{list_any, list_all, range_with_len}
 use Rattle.std.proofs.lemmas.List.{get_or-drop, take_all}
@@ -45,22 +46,14 @@ seen_whole bytes b =
     let long = length-rows_of bytes in
     ap (λ rows. is_among rows b) (sym (take_all (rows_in bytes) (rows_of bytes) (omega arith))) ∙ seen_before bytes (rows_in bytes) b (omega arith)
 
-and_assoc : (x y z : Bool) → (x && (y && z)) ≡ ((x && y) && z)
-and_assoc true y z = refl
-and_assoc false y z = refl
-
-and_right : (x : Bool) → (x && true) ≡ x
-and_right true = refl
-and_right false = refl
-
 -- each of the bodies from `a` on, of which there are n, and of those before them
 all_seen_from : (bytes : List ℕ) (k a n : ℕ) → (all_seen bytes k a && list_all (seen bytes k) (range_with_len a n)) ≡ all_seen bytes k (a + n)
 unfolding all_seen
-all_seen_from bytes k a zero = and_right (all_seen bytes k a) ∙ ap (all_seen bytes k) (sym (add-zero a))
+all_seen_from bytes k a zero = and-true (all_seen bytes k a) ∙ ap (all_seen bytes k) (sym (add-zero a))
 all_seen_from bytes k a (suc n) =
     let next : a + 1 + n ≡ a + suc n = omega arith in
     let here : all_seen bytes k (a + 1) ≡ (all_seen bytes k a && seen bytes k a) = ap (all_seen bytes k) (add-one a) in
-    and_assoc (all_seen bytes k a) (seen bytes k a) (list_all (seen bytes k) (range_with_len (a + 1) n))
+    sym (and_assoc (all_seen bytes k a) (seen bytes k a) (list_all (seen bytes k) (range_with_len (a + 1) n)))
     ∙ ap (λ x. x && list_all (seen bytes k) (range_with_len (a + 1) n)) (sym here)
     ∙ all_seen_from bytes k (a + 1) n ∙ ap (all_seen bytes k) next
 

@@ -1,7 +1,8 @@
 -- The rows of two shares, one behind the other: each body is in one of the two, so each has one row.
-use Rattle.std.proofs.Common.{◌≡◌, ℕ, ◌+◌, ◌-◌, ◌*◌, ◌<◌, ◌≤◌, Bool, true, false, cond, not, List, ◌++◌, length, get_or, take, drop, sym, refl, ap, ◌∙◌, subst, inl, inr, true≢false, append-nil, arith, length-take-le, get_or-take, rules}
+use Rattle.std.proofs.Common.{◌≡◌, ℕ, ◌+◌, ◌-◌, ◌*◌, ◌<◌, ◌≤◌, Bool, true, false, cond, not, List, ◌++◌, length, get_or, take, drop, sym, refl, ap, ◌∙◌, subst, inl, inr, append-nil, arith, length-take-le, get_or-take, rules}
 use borrow.Rule.Slice.PartMut.{put_mid, post_of}
 use Rattle.std.proofs.lemmas.List.{places, drop_at, drop_all, drop-drop, take_rest}
+use Rattle.std.proofs.lemmas.Bool.{not-true}
 use Rattle.std.proofs.lemmas.Bool.Decides.{leb_tells}
 use Rattle.motion.specs.Changes.{member}
 use Rattle.motion.specs.Systems.{WordsState}
@@ -82,14 +83,10 @@ module _ (n : ℕ) (first second : List Bool) (s t : WordsState) (rows one two :
   unfolding index
   whose k h = elim (leb_tells (members first n) k) [
     | inl u ↦ let found = member_at second n (k - members first n) (omega arith) in
-        let out : member first found.0 ≡ false = not_true (member first found.0) (sym (others found.0 found.1) ∙ found.2) in
+        let out : member first found.0 ≡ false = not-true (member first found.0) (sym (others found.0 found.1) ∙ found.2) in
         (found.0, found.1, rw out (let e = found.3 in omega arith))
     | inr u ↦ let found = member_at first n k (omega arith) in (found.0, found.1, rw found.2 found.3)
   ]
-    where
-      not_true : (c : Bool) → not c ≡ true → c ≡ false
-      not_true true e = absurd (true≢false (sym e))
-      not_true false e = refl
 
   pub rows_carry : (k : ℕ) → k < rows_in rows → RowOf (mixed first s t) (row_body rows k) rows k
   rows_carry k h =

@@ -1,14 +1,14 @@
 -- Rows that are looked through and then written: each body has one row, so no write spoils another.
-use Rattle.std.proofs.Common.{◌≡◌, ℕ, zero, suc, ◌+◌, ◌-◌, ◌*◌, ◌%◌, ◌<◌, ◌≤◌, Bool, true, false, cond, ◌&&◌, ◌||◌, eqb, ◌≢◌, ◌⊎◌, List, ◌++◌, length, get_or, drop, set, sym, refl, ap, ◌∙◌, inl, inr, true≢false, add_assoc, arith, length-set, get_or-set_other, get_or-set_same, rules, le-ltb, lt-ltb, eq-eqb}
+use Rattle.std.proofs.Common.{◌≡◌, ℕ, zero, suc, ◌+◌, ◌-◌, ◌*◌, ◌%◌, ◌<◌, ◌≤◌, true, false, cond, eqb, ◌≢◌, List, length, get_or, set, sym, refl, ap, ◌∙◌, inl, inr, true≢false, add_assoc, arith, length-set, get_or-set_other, get_or-set_same, le-ltb, lt-ltb, eq-eqb}
 use borrow.Rule.Slice.PartMut.{put_mid}
-use Rattle.std.proofs.lemmas.List.{places}
+use Rattle.std.proofs.lemmas.Bool.{and_parts, or_cases, or_parts}
 use Rattle.std.proofs.lemmas.Bool.Decides.{eqb_tells}
 use Rattle.motion.proofs.BodyWords.{own_part, other_part}
 use Rattle.words.proofs.InBytes.{number_moved}
 use Rattle.motion.specs.Refusals.{good, refused}
 use Rattle.shares.specs.Rows.{word_at, row_body, rows_in, rows_of}
 use Rattle.shares.proofs.Chunks.{get_or-rows_of}
-use Rattle.shares.specs.Taking.{seen, all_seen, faulty, ending, rows_from, checking, taking, Distinct, EachOnce, RowTaken, RowsTaken, Taken}
+use Rattle.shares.specs.Taking.{seen, all_seen, faulty, ending, rows_from, checking, taking, Distinct, EachOnce, RowTaken, RowsTaken}
 
 -- two words written for axis a
 module _ (ws : List ℕ) (a u v : ℕ) (long : length ws ≡ 6) (axis : a < 3) where
@@ -25,23 +25,11 @@ module _ (ws : List ℕ) (a u v : ℕ) (long : length ws ≡ 6) (axis : a < 3) w
   other_same k ne ne' = rw (get_or-set_other, get_or-set_other)
 
 -- what is seen and what is not
-or_true : (x y : Bool) → (x || y) ≡ true → (x ≡ true) ⊎ (y ≡ true)
-or_true true y e = inl refl
-or_true false y e = inr e
-
-or_false : (x y : Bool) → (x || y) ≡ false → (x ≡ false) × (y ≡ false)
-or_false true y e = absurd (true≢false e)
-or_false false y e = (refl, e)
-
-and_true : (x y : Bool) → (x && y) ≡ true → (x ≡ true) × (y ≡ true)
-and_true true y e = (refl, e)
-and_true false y e = absurd (true≢false (sym e))
-
 pub not_seen : (rows : List ℕ) (k b : ℕ) → seen rows k b ≡ false → (j : ℕ) → j < k → row_body rows j ≡ b → ⊥
 unfolding seen
 not_seen rows zero b e j h same = absurd (omega arith)
 not_seen rows (suc k) b e j h same =
-    let parts = or_false (seen rows k b) (eqb (row_body rows k) b) e in
+    let parts = or_parts (seen rows k b) (eqb (row_body rows k) b) e in
     elim (eqb_tells j k) [
       | inl t ↦ elim (eqb_tells (row_body rows k) b) [
         | inl u ↦ true≢false (sym u.0 ∙ parts.1)
@@ -53,7 +41,7 @@ not_seen rows (suc k) b e j h same =
 pub seen_where : (rows : List ℕ) (k b : ℕ) → seen rows k b ≡ true → (j : ℕ) × (j < k) × (row_body rows j ≡ b)
 unfolding seen
 seen_where rows zero b e = absurd (true≢false (sym e))
-seen_where rows (suc k) b e = elim (or_true (seen rows k b) (eqb (row_body rows k) b) e) [
+seen_where rows (suc k) b e = elim (or_cases (seen rows k b) (eqb (row_body rows k) b) e) [
   | inl t ↦ let found = seen_where rows k b t in (found.0, omega arith, found.2)
   | inr t ↦ (k, omega arith, elim (eqb_tells (row_body rows k) b) [ inl u ↦ u.1 | inr u ↦ absurd (true≢false (sym t ∙ u.0)) ])
 ]
@@ -62,7 +50,7 @@ all_seen_each : (rows : List ℕ) (k n : ℕ) → all_seen rows k n ≡ true →
 unfolding all_seen
 all_seen_each rows k zero e b h = absurd (omega arith)
 all_seen_each rows k (suc n) e b h =
-    let parts = and_true (all_seen rows k n) (seen rows k n) e in
+    let parts = and_parts (all_seen rows k n) (seen rows k n) e in
     elim (eqb_tells b n) [ inl t ↦ ap (seen rows k) t.1 ∙ parts.1 | inr t ↦ all_seen_each rows k n parts.0 b (omega arith) ]
 
 module _ (n : ℕ) (rows : List ℕ) where
@@ -146,21 +134,6 @@ module _ (n k s : ℕ) (rows st ys : List ℕ) (once : EachOnce n rows) (row : k
       | inr t ↦ old j (omega arith) (2 * a) (omega arith) ∙ all.positions j (omega arith) a l
     ];
   }
-
--- rows taken into the front of a longer slice
-pub taken_in_front : (n : ℕ) (rows before ys zs : List ℕ) → EachOnce n rows → length ys ≡ 6 * n → RowsTaken rows (rows_in rows) ys →
-    drop (6 * n) (ys ++ zs) ≡ drop (6 * n) before → Taken n rows before (ys ++ zs)
-taken_in_front n rows before ys zs once long taken behind = record {
-  once = once;
-  words = record {
-    momenta = λ j h a k. let b = once.distinct.below j h in front (6 * row_body rows j + (2 * a + 1)) (omega arith) ∙ taken.momenta j h a k;
-    positions = λ j h a k. let b = once.distinct.below j h in front (6 * row_body rows j + 2 * a) (omega arith) ∙ taken.positions j h a k;
-  };
-  behind = behind;
-}
-  where
-    front : (k : ℕ) → k < 6 * n → get_or (ys ++ zs) k 0 ≡ get_or ys k 0
-    front k h = let p : k < length ys = omega arith in search (rules, places)
 
 -- a long enough slice is told what the rows are told
 pub taking_rows : (n : ℕ) (rows : List ℕ) (state : ℕ) → 6 * n ≤ state → good tt ≡ checking n rows → good tt ≡ taking n rows state

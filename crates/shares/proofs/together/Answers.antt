@@ -5,7 +5,7 @@ use Rattle.motion.specs.Memory.{state_of}
 use Rattle.motion.specs.declared.turn.Direction.TheVariants.{Ahead}
 use Rattle.shares.specs.Together.{Two, merged, two_of, together_of}
 use Rattle.shares.specs.declared.SharedStep.{SharedStep}
-use Rattle.shares.proofs.Merging.{together_none, together_more, together_alone, lent_enough}
+use Rattle.shares.proofs.Merging.{together_none, together_more, together_alone}
 use Rattle.shares.proofs.together.Goals as goal
 
 pub loop-step-init : goal.loop-step-init
@@ -37,8 +37,8 @@ loop-step-preserved c =
       },
     )
 
-pub returns : goal.returns
-returns c =
+pub returns-clause-states : goal.returns-clause-states
+returns-clause-states c =
     let system = c.args.system.now in
     let n = system.count in
     let steps = c.args.steps.now in
@@ -47,12 +47,8 @@ returns c =
     let made : two_of n c.loop-step.first c.loop-step.second ≡ together_of system steps (two_of n left right) =
     c.loop-step.invariant.0 ∙ ap (λ l. together_of system l (two_of n left right)) (take_all c.loop-step.step-index steps (omega arith)) in
     record {
-      answer = lent_enough n _ _ _ _ (omega arith) (omega arith) (omega arith) (omega arith);
-      states = record {
-        states = made;
-        as_one = λ same. made ∙ ap (λ t. together_of system steps (record { first = state_of n left; second = t })) (sym same) ∙ together_alone system steps (state_of n left);
-        first_behind = c.loop-step.invariant.1;
-        second_behind = c.loop-step.invariant.2;
-      };
-      room = c.loop-step.invariant.3;
+      states = made;
+      as_one = λ same. made ∙ ap (λ t. together_of system steps (record { first = state_of n left; second = t })) (sym same) ∙ together_alone system steps (state_of n left);
+      first_behind = c.loop-step.invariant.1;
+      second_behind = c.loop-step.invariant.2;
     }

@@ -1,7 +1,6 @@
 -- A body of the share gets the next row, and another none.
-use Rattle.std.proofs.Common.{◌≡◌, ◌+◌, ◌-◌, ◌*◌, ◌/◌, ◌≤◌, ℕ, ◌<◌, [], length, get_or, sym, ap, ◌∙◌, subst, true≢false, arith, rules}
+use Rattle.std.proofs.Common.{◌≡◌, ◌+◌, ◌-◌, ◌*◌, ◌/◌, ◌≤◌, ℕ, ◌<◌, [], length, get_or, sym, ap, ◌∙◌, true≢false, arith, rules}
 use Rattle.std.proofs.lemmas.List.{places}
-use Rattle.shares.specs.Rows.{RowsWritten}
 use Rattle.shares.proofs.Chunks.{get_or-first_chunks}
 use Rattle.shares.proofs.Members.{members_none, members_in, members_out, row_room}
 use Rattle.shares.proofs.SentRows.{rows_none, rows_more, rows_skip}
@@ -55,8 +54,3 @@ loop-b-preserved c =
             omega (arith, w.at-is),
           )
     ]
-
-pub returns : goal.returns
-returns c =
-    let all : c.loop-b.b ≡ length c.args.words.now / 6 = omega arith in
-    subst (λ n. RowsWritten c.args.share.now c.args.words.now n c.loop-b.rows) all c.loop-b.invariant.0

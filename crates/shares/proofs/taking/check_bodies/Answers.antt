@@ -1,16 +1,11 @@
 -- The first faulty row is told, and a row without fault is passed over.
-use Rattle.std.proofs.Common.{◌≡◌, ◌-◌, ◌<◌, ◌≤◌, false, true, sym, ap, ◌∙◌, subst, arith}
+use Rattle.std.proofs.Common.{◌≡◌, ◌<◌, ◌≤◌, false, true, sym, ap, ◌∙◌, subst, arith}
 use Rattle.shares.specs.Rows.{row_body, rows_in}
-use Rattle.shares.specs.Taking.{seen, rows_from, Distinct}
+use Rattle.shares.specs.Taking.{seen, Distinct}
 use Rattle.shares.proofs.Chunks.{rows_counted, body_read, seen_read}
-use Rattle.shares.proofs.TakenRows.{fault_here, no_fault, rows_over, distinct_none, distinct_more, beyond_faulty, seen_faulty, not_faulty}
+use Rattle.shares.proofs.TakenRows.{fault_here, no_fault, rows_over, distinct_more, beyond_faulty, seen_faulty, not_faulty}
 use Rattle.shares.proofs.taking.check_bodies.Goals as goal
 use Rattle.shares.proofs.taking.check_bodies.Goals.{then-body-count-via-then-body-count, then-body-count-via-else-body-count+then-seen_in}
-
-pub loop-k-init : goal.loop-k-init
-loop-k-init c = λ bytes read.
-    let all : rows_in bytes ≡ rows_in bytes - 0 = omega arith in
-    (ap (λ left. rows_from c.args.count bytes left 0) all, distinct_none _ _)
 
 pub returns-then-body-count : goal.returns-then-body-count
 returns-then-body-count c = λ bytes read.

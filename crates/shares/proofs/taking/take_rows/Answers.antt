@@ -28,8 +28,3 @@ loop-row-preserved c =
     let one = subst (λ rows. RowTaken (get_or rows k []) ys) c.as_chunks.ensures.front c.take_row.ensures in
     let more = taken_more n k (6 * b + 6 - 6 * b) bytes c.loop-row.state ys c.requires row (omega arith) six (omega arith) c.loop-row.invariant [] one in
     subst (λ m. RowsTaken bytes (k + 1) (put_mid (6 * m) (6 * m + 6 - 6 * m) c.loop-row.state ys)) (sym body) more
-
-pub returns : goal.returns
-returns c =
-    let all : c.loop-row.row-index ≡ rows_in c.args.bytes.now = omega arith in
-    subst (λ k. RowsTaken c.args.bytes.now k c.loop-row.state) all c.loop-row.invariant
