@@ -105,6 +105,7 @@ pub fn together(
 }
 
 /// Makes one shared step.
+// The four slices are passed one by one: no proof is made yet of a call that is lent two fields of one struct at once.
 fn share_step(
     system: &System,
     shared: SharedStep,
@@ -177,19 +178,16 @@ mod tests {
         system: &System,
         direction: Direction,
         state: &mut [u64],
-        rows: &mut [u8],
+        rows: &mut [u8; 98],
     ) -> Result<(), Refusal> {
         let mut work = [u64::MAX; 12];
-        if rows.len() != 98 {
-            return Err(Refusal::RowsShort);
-        }
         work_out(
             system,
             &[true, false],
             direction,
             state,
             &mut work,
-            &mut rows[49..98],
+            &mut rows[49..],
         )?;
         work_out(
             system,
@@ -197,7 +195,7 @@ mod tests {
             direction,
             state,
             &mut work,
-            &mut rows[0..49],
+            &mut rows[..49],
         )?;
         take_in(system, rows, state)
     }
