@@ -28,7 +28,7 @@ members_most share (suc n) = let below = members_most share n in one_most (membe
 -- one body more, that is in the share or not
 pub members_in : (share : List Bool) (b : ℕ) → member share b ≡ true → members share (b + 1) ≡ members share b + 1
 unfolding members
-members_in share b e = rw add-one (rw e (omega arith))
+members_in share b e = rw (add-one b) (rw e (omega arith))
 
 pub members_out : (share : List Bool) (b : ℕ) → member share b ≡ false → members share (b + 1) ≡ members share b
 unfolding members
