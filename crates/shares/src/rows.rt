@@ -14,10 +14,10 @@ fn write_row(words: &[u64; 6], body: u8, row: &mut [u8])
     ensures { RowWritten words.now body row.new }
 {
     row[0] = body;
-    // The axis is counted, since it says where a word stands in both slices.
-    for a in 0..3 {
-        write_number(&mut row[1 + 8 * a..9 + 8 * a], words[2 * a + 1]);
-        write_number(&mut row[25 + 8 * a..33 + 8 * a], words[2 * a]);
+    for (a, axis) in words.as_chunks::<2>().0.iter().enumerate() {
+        let [position, momentum] = *axis;
+        write_number(&mut row[1 + 8 * a..9 + 8 * a], momentum);
+        write_number(&mut row[25 + 8 * a..33 + 8 * a], position);
     }
 }
 

@@ -57,7 +57,7 @@ fn take_row(row: &[u8; ROW], words: &mut [u64])
     requires { length words.old ≡ 6 }
     ensures { RowTaken row.now words.new }
 {
-    // The axis is counted, since it says where a word stands in both slices.
+    // The axis is counted: after writes through `as_chunks_mut` a proof knows no word of `words`.
     for a in 0..3 {
         words[2 * a + 1] = number_in(&row[1 + 8 * a..9 + 8 * a]);
         words[2 * a] = number_in(&row[25 + 8 * a..33 + 8 * a]);
