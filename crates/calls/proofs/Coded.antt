@@ -1,5 +1,5 @@
 -- Calls in bytes: what stands in front of a part is what stands at its place in the whole.
-use Rattle.std.proofs.Common.{◌≡◌, ℕ, suc, ◌+◌, ◌^◌, ◌<◌, ◌≤◌, cond, ◌⊎◌, List, [], ◌∷◌, ◌++◌, length, get_or, take, drop, is_ok, IfOk, Some, None, Ok, Err, Option, Result, sym, refl, ap, ◌∙◌, subst, inl, inr, add-zero, add_assoc, mod-eq_of_lt, one-add, arith, le-leb}
+use Rattle.std.proofs.Common.{◌≡◌, ℕ, suc, ◌+◌, ◌^◌, ◌-◌, ◌<◌, ◌≤◌, cond, ◌⊎◌, List, [], ◌∷◌, ◌++◌, length, get_or, take, drop, length-drop, is_ok, IfOk, Some, None, Ok, Err, Option, Result, sym, refl, ap, ◌∙◌, subst, inl, inr, add-zero, add_assoc, mod-eq_of_lt, one-add, arith, le-leb}
 use borrow.Author.Tests.{lt-leb}
 use Rattle.std.specs.List.{between}
 use Rattle.std.specs.declared.alloc.AllocError.{AllocError}
@@ -12,40 +12,17 @@ use Rattle.calls.specs.Calls.{size_of, bytes_of_call, candidates, of_kind, whole
 use Rattle.calls.specs.declared.call.Call.{Call}
 use Rattle.calls.specs.declared.call.Call.TheVariants.{Forward, Back, Mark, GoTo, Read}
 
-module _ (bytes : List ℕ) (at : ℕ) where
-  abbrev pub rest : List ℕ
-  rest = between at (length bytes) bytes
+-- what is told of a call, by the call that its bytes may stand for
+told_there : (bytes : List ℕ) (k at : ℕ) → at < length bytes → call_at bytes k at ≡ whole bytes k at (of_kind (get_or bytes at 0) (candidates bytes at))
+told_there bytes k at there =
+    ap (λ b. cond b (refused 1 (length bytes)) (whole bytes k at (of_kind (get_or bytes at 0) (candidates bytes at)))) (lt-leb (length bytes) at there)
 
-  byte : (j : ℕ) → get_or rest j 0 ≡ get_or bytes (at + j) 0
-  byte j = ap (λ l. get_or l j 0) (take_rest bytes at) ∙ get_or-drop at bytes j 0
-
-  steps : number_at 4 rest 1 ≡ number_at 4 bytes (at + 1)
-  steps = number_moved 4 rest bytes 1 (at + 1) (λ j h. byte (1 + j) ∙ ap (λ k. get_or bytes k 0) (omega arith))
-
-  pub front_call : of_kind (get_or rest 0 0) (candidates rest 0) ≡ of_kind (get_or bytes at 0) (candidates bytes at)
-  front_call = λ i. of_kind (kind i) (Forward (steps i) ∷ Back (steps i) ∷ Mark (byte 1 i) ∷ GoTo (byte 1 i) ∷ Read (byte 1 i) (byte 2 i) ∷ [])
-    where
-      kind : get_or rest 0 0 ≡ get_or bytes at 0
-      kind = byte 0 ∙ ap (λ k. get_or bytes k 0) (add-zero at)
-
-  module _ (k : ℕ) (there : at < length bytes) where
-    told_there : (o : Option Call) → of_kind (get_or rest 0 0) (candidates rest 0) ≡ o → call_at bytes k at ≡ whole bytes k at o
-    told_there o e = ap (λ b. cond b (refused 1 (length bytes)) (whole bytes k at (of_kind (get_or bytes at 0) (candidates bytes at)))) (lt-leb (length bytes) at there)
-        ∙ ap (whole bytes k at) (sym front_call ∙ e)
-
-    -- no such kind
-    pub unknown_call : of_kind (get_or rest 0 0) (candidates rest 0) ≡ None → call_at bytes k at ≡ refused 4 k
-    unknown_call e = told_there None e
-
-    -- a call that is there as a whole
-    pub whole_call : (call : Call) → of_kind (get_or rest 0 0) (candidates rest 0) ≡ Some call → at + size_of call ≤ length bytes → call_at bytes k at ≡ good call
-    whole_call call e room =
-        told_there (Some call) e ∙ ap (λ b. cond b (good call) (refused 1 (length bytes))) (le-leb (at + size_of call) (length bytes) room)
-
-    -- a call that is cut off
-    pub cut_call : (call : Call) → of_kind (get_or rest 0 0) (candidates rest 0) ≡ Some call → length bytes < at + size_of call → call_at bytes k at ≡ refused 1 (length bytes)
-    cut_call call e short =
-        told_there (Some call) e ∙ ap (λ b. cond b (good call) (refused 1 (length bytes))) (lt-leb (at + size_of call) (length bytes) short)
+-- a call that is there as a whole
+whole_call : (bytes : List ℕ) (k at : ℕ) → at < length bytes → (call : Call) → of_kind (get_or bytes at 0) (candidates bytes at) ≡ Some call →
+    at + size_of call ≤ length bytes → call_at bytes k at ≡ good call
+whole_call bytes k at there call e room =
+    told_there bytes k at there ∙ ap (whole bytes k at) e
+    ∙ ap (λ b. cond b (good call) (refused 1 (length bytes))) (le-leb (at + size_of call) (length bytes) room)
 
 -- what holds of each kind, and where there is no such kind, holds of the call that is read
 pub by_kind : (bytes : List ℕ) (at : ℕ) (P : Option Call → Type 0) →
@@ -132,6 +109,60 @@ module _ (bytes : List ℕ) (at : ℕ) (there : at < length bytes) (small : (j :
           let is : other ≡ call = cc in
           subst (λ c. at + size_of c ≤ length bytes → take (size_of c) (drop at bytes) ≡ bytes_of_call c) is back room
 
+-- what is promised of a call that is read
+pub record Taken (bytes : List ℕ) (k at : ℕ) (call : Call) : Type 0 where
+  pub answer : good call ≡ call_at bytes k at
+  pub within : at + size_of call ≤ length bytes
+  pub undone : take (size_of call) (drop at bytes) ≡ bytes_of_call call
+
+-- the call in front of the part from `at` on is the call there
+module _ (bytes rest : List ℕ) (k at : ℕ) (is : rest ≡ drop at bytes) (some : 0 < length rest) where
+  long : length rest ≡ length bytes - at
+  long = ap length is ∙ length-drop at bytes
+
+  byte : (j : ℕ) → get_or rest j 0 ≡ get_or bytes (at + j) 0
+  byte j = ap (λ l. get_or l j 0) is ∙ get_or-drop at bytes j 0
+
+  steps : number_at 4 rest 1 ≡ number_at 4 bytes (at + 1)
+  steps = number_moved 4 rest bytes 1 (at + 1) (λ j h. byte (1 + j) ∙ ap (λ k. get_or bytes k 0) (omega arith))
+
+  front_call : of_kind (get_or rest 0 0) (candidates rest 0) ≡ of_kind (get_or bytes at 0) (candidates bytes at)
+  front_call = λ i. of_kind (kind i) (Forward (steps i) ∷ Back (steps i) ∷ Mark (byte 1 i) ∷ GoTo (byte 1 i) ∷ Read (byte 1 i) (byte 2 i) ∷ [])
+    where
+      kind : get_or rest 0 0 ≡ get_or bytes at 0
+      kind = byte 0 ∙ ap (λ k. get_or bytes k 0) (add-zero at)
+
+  told_in_front : call_at bytes k at ≡ whole bytes k at (of_kind (get_or rest 0 0) (candidates rest 0))
+  told_in_front = let l = long in told_there bytes k at (omega arith) ∙ ap (whole bytes k at) (sym front_call)
+
+  -- a call that is there as a whole
+  pub taken : ((j : ℕ) → get_or bytes j 0 < 256) → (call : Call) → of_kind (get_or rest 0 0) (candidates rest 0) ≡ Some call → size_of call ≤ length rest →
+      Taken bytes k at call
+  taken small call e room =
+      let l = long in
+      let e_there = sym front_call ∙ e in
+      let within : at + size_of call ≤ length bytes = omega arith in
+      record {
+        answer = sym (whole_call bytes k at (omega arith) call e_there within);
+        within = within;
+        undone = read_back bytes at (omega arith) small call e_there within;
+      }
+
+  -- a call that is cut off
+  pub cut_off : (get_or rest 0 0 ≡ 1 → length rest < 5) → (get_or rest 0 0 ≡ 2 → length rest < 5) → (get_or rest 0 0 ≡ 3 → length rest < 2) →
+      (get_or rest 0 0 ≡ 4 → length rest < 2) → (get_or rest 0 0 ≡ 5 → length rest < 3) → 1 ≤ get_or rest 0 0 → get_or rest 0 0 ≤ 5 →
+      refused 1 (length bytes) ≡ call_at bytes k at
+  unfolding bytes_of
+  cut_off one two three four five least most = sym (told_in_front ∙ by_kind rest 0 (λ o. whole bytes k at o ≡ refused 1 (length bytes))
+      (λ t. short (Forward (number_at 4 rest 1)) (one t)) (λ t. short (Back (number_at 4 rest 1)) (two t)) (λ t. short (Mark (get_or rest 1 0)) (three t))
+      (λ t. short (GoTo (get_or rest 1 0)) (four t)) (λ t. short (Read (get_or rest 1 0) (get_or rest 2 0)) (five t))
+      (λ t. absurd (elim t [ inl e ↦ omega arith | inr h ↦ omega arith ])))
+    where
+      short : (call : Call) → length rest < size_of call → whole bytes k at (Some call) ≡ refused 1 (length bytes)
+      short call h =
+          let l = long in
+          ap (λ b. cond b (good call) (refused 1 (length bytes))) (lt-leb (at + size_of call) (length bytes) (omega arith))
+
 -- a number of steps fits its four bytes
 unfoldable pub FitsBytes : Call → Type 0
 FitsBytes (Forward steps) = steps < 2 ^ 32
@@ -182,7 +213,7 @@ module _ (xs more : List ℕ) where
   pub written_call : (call : Call) → FitsBytes call → (k : ℕ) → call_at (joined (bytes_of_call call)) k (length xs) ≡ good call
   written_call call fits k =
       let room = long_enough (bytes_of_call call) in
-      whole_call (joined (bytes_of_call call)) (length xs) k (omega arith) call (front_call (joined (bytes_of_call call)) (length xs) ∙ found call fits) room
+      whole_call (joined (bytes_of_call call)) k (length xs) (omega arith) call (found call fits) room
 
 -- what is promised where a slice with a call's bytes was appended, or nothing
 pub record Encoded (call : Call) (result : Result (Unit {0}) AllocError) (before after : List ℕ) : Type 0 where

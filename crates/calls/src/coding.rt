@@ -1,8 +1,8 @@
 //! Calls from bytes and to bytes.
-ghost use Rattle.std.specs.Prelude.{◌≡◌, ℕ, ◌+◌, ◌≤◌, List, ◌∷◌, ◌++◌, length, take, drop, is_ok, IfOk, if◌then◌else◌, OnOk, slice_index};
-ghost use Rattle.words.specs.Bytes.{number_at, bytes_of};
+ghost use Rattle.std.specs.Prelude.{◌≡◌, ℕ, ◌+◌, ◌≤◌, List, ◌∷◌, ◌++◌, length, take, drop, is_ok, IfOk, if◌then◌else◌, OnOk};
+ghost use Rattle.words.specs.Bytes.{bytes_of};
 ghost use Rattle.motion.specs.Refusals.{good, told};
-ghost use Rattle.calls.specs.Calls.{call_at, candidates, of_kind, size_of, bytes_of_call};
+ghost use Rattle.calls.specs.Calls.{call_at, size_of, bytes_of_call};
 
 use crate::Call;
 use motion::Refusal;
@@ -15,16 +15,17 @@ impl Call {
         ensures within { IfOk result (λ call. at + size_of call ≤ length bytes.now) }
         ensures undone { IfOk result (λ call. take (size_of call) (drop at bytes.now) ≡ bytes_of_call call) }
     {
-        if at >= bytes.len() {
-            return Err(Refusal::Length(bytes.len()));
+        // The kinds are plain numbers here and in `encode`, and nowhere else: `Call` is their enum, and a second one of bare
+        // kinds, with its own conversion, would stand beside the same five arms.
+        match bytes.get(at..).unwrap_or(&[]) {
+            &[1, a, b, c, d, ..] => Ok(Call::Forward(u32::from_le_bytes([a, b, c, d]))),
+            &[2, a, b, c, d, ..] => Ok(Call::Back(u32::from_le_bytes([a, b, c, d]))),
+            &[3, mark, ..] => Ok(Call::Mark(mark)),
+            &[4, mark, ..] => Ok(Call::GoTo(mark)),
+            &[5, body, axis, ..] => Ok(Call::Read { body, axis }),
+            [] | [1..=5, ..] => Err(Refusal::Length(bytes.len())),
+            _ => Err(Refusal::Kind(number)),
         }
-        let Some(call) = call_in_front(&bytes[at..]) else {
-            return Err(Refusal::Kind(number));
-        };
-        if bytes.len() - at < call.size() {
-            return Err(Refusal::Length(bytes.len()));
-        }
-        Ok(call)
     }
 
     /// Appends the call's bytes. Where memory is wanting nothing is appended.
@@ -59,40 +60,4 @@ fn with_steps(kind: u8, steps: u32) -> [u8; 5]
 {
     let [a, b, c, d] = steps.to_le_bytes();
     [kind, a, b, c, d]
-}
-
-/// Gives a byte, or 0 past the end.
-fn byte_at(bytes: &[u8], at: usize) -> u8
-    ensures { result ≡ slice_index bytes.now at }
-{
-    if at < bytes.len() { bytes[at] } else { 0 }
-}
-
-/// Reads the number of steps behind a kind.
-fn steps_in(bytes: &[u8]) -> u32
-    ensures { result ≡ number_at 4 bytes.now 1 }
-{
-    u32::from_le_bytes([
-        byte_at(bytes, 1),
-        byte_at(bytes, 2),
-        byte_at(bytes, 3),
-        byte_at(bytes, 4),
-    ])
-}
-
-/// Reads the call in front of bytes, if there is such a kind; bytes that are missing are read as 0.
-fn call_in_front(bytes: &[u8]) -> Option<Call>
-    ensures { result ≡ of_kind (slice_index bytes.now 0) (candidates bytes.now 0) }
-{
-    match byte_at(bytes, 0) {
-        1 => Some(Call::Forward(steps_in(bytes))),
-        2 => Some(Call::Back(steps_in(bytes))),
-        3 => Some(Call::Mark(byte_at(bytes, 1))),
-        4 => Some(Call::GoTo(byte_at(bytes, 1))),
-        5 => Some(Call::Read {
-            body: byte_at(bytes, 1),
-            axis: byte_at(bytes, 2),
-        }),
-        _ => None,
-    }
 }
