@@ -129,6 +129,5 @@ module _ (k c : ℕ) (player : Player) (state checkpoints checkpoints_left work 
   }
 
 -- where there is room, what is promised is what is told
-pub with_room : {X : Type 0} (x y : Told X) (u : Unit {0}) (n m state checkpoints work : ℕ) → x ≡ y → good u ≡ room_told n state checkpoints work → n ≡ m →
-    x ≡ provided (room_told m state checkpoints work) y
-with_room x y u n m state checkpoints work e room same = e ∙ ap (λ t. provided t y) (room ∙ ap (λ l. room_told l state checkpoints work) same)
+pub with_room : {X : Type 0} {x y : Told X} {u : Unit {0}} {room : Told (Unit {0})} → x ≡ y → good u ≡ room → x ≡ provided room y
+with_room {y = y} e enough = e ∙ ap (λ t. provided t y) enough

@@ -2,20 +2,25 @@
 ghost use Rattle.std.specs.Prelude.{◌≡◌, ◌+◌, ◌*◌, ◌<◌, ◌≤◌, ◌∷◌, length, Some, None, MatchOption};
 ghost use Rattle.std.specs.Int.{w64};
 ghost use mir.Val.{of_z};
-ghost use Rattle.calls.specs.Checkpoints.{checkpoints_length, kept_in, kept_words, HoldsTime};
+ghost use Rattle.motion.specs.Memory.{state_length};
+ghost use Rattle.calls.specs.Checkpoints.{checkpoint_length, checkpoints_length, kept_in, kept_words, HoldsTime};
 
+use crate::Player;
+use motion::System;
 use words::read_signed;
 
 /// How many checkpoints there are.
 pub(crate) const CHECKPOINTS: usize = 16;
 
-/// Gives the words of a checkpoint of so many bodies.
-pub(crate) fn checkpoint_size(count: usize) -> usize
-    requires { count ≤ 64 }
-    ensures { result ≡ 6 * count + 2 }
+/// Gives the words of a checkpoint of a system.
+pub(crate) fn checkpoint_size(system: &System) -> usize
+    ensures { result ≡ checkpoint_length system.now.count }
 {
-    6 * count + 2
+    6 * system.count() + 2
 }
+
+// A checkpoint is words with a flag in front, and no struct: the caller lends the words of all sixteen, and their layout is
+// what `Checkpoints` defines.
 
 /// Writes a checkpoint: that it is kept, its time, and the words of its state.
 fn write_checkpoint(words: &mut [u64], time: i64, state: &[u64])
@@ -27,31 +32,28 @@ fn write_checkpoint(words: &mut [u64], time: i64, state: &[u64])
     words[2..].copy_from_slice(state);
 }
 
-/// Keeps a time and the state of so many bodies under a number.
-pub(crate) fn keep(count: usize, number: u8, time: i64, state: &[u64], checkpoints: &mut [u64])
-    requires count { count ≤ 64 }
-    requires number { number < 16 }
-    requires state { 6 * count ≤ length state.now }
-    requires checkpoints { checkpoints_length count ≤ length checkpoints.old }
-    ensures { checkpoints.new ≡ kept_words count number time state.now checkpoints.old }
-{
-    let size = checkpoint_size(count);
-    let at = number as usize * size;
-    write_checkpoint(&mut checkpoints[at..at + size], time, &state[0..6 * count]);
-}
+impl Player {
+    /// Keeps the time and the state under a number.
+    pub(crate) fn keep(&self, number: u8, state: &[u64], checkpoints: &mut [u64])
+        requires number { number < 16 }
+        requires state { state_length self.now.system.count ≤ length state.now }
+        requires checkpoints { checkpoints_length self.now.system.count ≤ length checkpoints.old }
+        ensures { checkpoints.new ≡ kept_words self.now.system.count number self.now.time state.now checkpoints.old }
+    {
+        let size = checkpoint_size(&self.system);
+        let at = usize::from(number) * size;
+        let state = &state[..6 * self.count()];
+        write_checkpoint(&mut checkpoints[at..at + size], self.time, state);
+    }
 
-/// Gives the time that is kept under a number, if one is.
-pub(crate) fn kept_time(count: usize, number: u8, checkpoints: &[u64]) -> Option<i64>
-    requires count { count ≤ 64 }
-    requires checkpoints { checkpoints_length count ≤ length checkpoints.now }
-    ensures { MatchOption result (kept_in count checkpoints.now number ≡ None) (λ t. HoldsTime t (kept_in count checkpoints.now number)) }
-{
-    if number as usize >= CHECKPOINTS {
-        return None;
+    /// Gives the time that is kept under a number, if one is.
+    pub(crate) fn kept_time(&self, number: u8, checkpoints: &[u64]) -> Option<i64>
+        requires { checkpoints_length self.now.system.count ≤ length checkpoints.now }
+        ensures { MatchOption result (kept_in self.now.system.count checkpoints.now number ≡ None) (λ t. HoldsTime t (kept_in self.now.system.count checkpoints.now number)) }
+    {
+        let number = usize::from(number);
+        let at = number * checkpoint_size(&self.system);
+        let kept = number < CHECKPOINTS && checkpoints[at] != 0;
+        kept.then(|| read_signed(checkpoints[at + 1]))
     }
-    let at = number as usize * checkpoint_size(count);
-    if checkpoints[at] == 0 {
-        return None;
-    }
-    Some(read_signed(checkpoints[at + 1]))
 }

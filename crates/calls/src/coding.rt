@@ -15,8 +15,8 @@ impl Call {
         ensures within { IfOk result (λ call. at + size_of call ≤ length bytes.now) }
         ensures undone { IfOk result (λ call. take (size_of call) (drop at bytes.now) ≡ bytes_of_call call) }
     {
-        // The kinds are plain numbers here and in `encode`, and nowhere else: `Call` is their enum, and a second one of bare
-        // kinds, with its own conversion, would stand beside the same five arms.
+        // The kinds are numbers of the file format: an enum of them beside `Call`, with its conversions, would only name these
+        // five arms once more.
         match bytes.get(at..).unwrap_or(&[]) {
             &[1, a, b, c, d, ..] => Ok(Call::Forward(u32::from_le_bytes([a, b, c, d]))),
             &[2, a, b, c, d, ..] => Ok(Call::Back(u32::from_le_bytes([a, b, c, d]))),

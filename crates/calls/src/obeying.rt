@@ -7,25 +7,25 @@ ghost use Rattle.calls.specs.Machine.{rules_of, provided, obey as obeying};
 ghost use Rattle.calls.specs.Outcomes.{Obeyed, Untouched};
 ghost use Rattle.calls.specs.SystemBytes.{room_told};
 
-use crate::checkpoints::{CHECKPOINTS, checkpoint_size, keep, kept_time};
+use crate::checkpoints::{CHECKPOINTS, checkpoint_size};
 use crate::{Answer, Call, Player};
-use motion::Refusal;
+use motion::{Refusal, System};
 use words::read_signed;
 
-/// Looks whether slices of these lengths suffice for so many bodies.
+/// Looks whether slices of these lengths suffice for a system.
 pub(crate) fn check_room(
-    count: usize,
+    system: &System,
     state: usize,
     checkpoints: usize,
     work: usize,
 ) -> Result<(), Refusal>
-    requires { count ≤ 64 }
-    ensures { told result ≡ room_told count state checkpoints work }
+    ensures { told result ≡ room_told system.now.count state checkpoints work }
 {
+    let count = system.count();
     if state < 6 * count {
         return Err(Refusal::StateShort);
     }
-    if checkpoints < CHECKPOINTS * checkpoint_size(count) {
+    if checkpoints < CHECKPOINTS * checkpoint_size(system) {
         return Err(Refusal::CheckpointsShort);
     }
     if work < count * count.saturating_sub(1) / 2 {
@@ -49,8 +49,7 @@ impl Player {
         ensures answer { told result ≡ provided (room_told self.old.system.count (length state.old) (length checkpoints.old) (length work.old)) (obeying (rules_of self.old.system) (machine_of self.old state.old checkpoints.old) number call).answer }
         ensures left { MatchResult result (λ _. Obeyed number call self.old self.new state.old state.new checkpoints.old checkpoints.new work.old work.new) (λ _. Untouched self.old self.new state.old state.new checkpoints.old checkpoints.new work.old work.new) }
     {
-        let count = self.system.count();
-        check_room(count, state.len(), checkpoints.len(), work.len())?;
+        check_room(&self.system, state.len(), checkpoints.len(), work.len())?;
         let time = self.time;
         match call {
             Call::Forward(steps) => {
@@ -63,7 +62,7 @@ impl Player {
             }
             Call::Mark(mark) => self.mark(mark, number, state, checkpoints),
             Call::GoTo(mark) => {
-                let to = kept_time(count, mark, checkpoints);
+                let to = self.kept_time(mark, checkpoints);
                 self.arrive(to, Refusal::Checkpoint(number), state, work)
             }
             Call::Read { body, axis } => self.read(body, axis, number, state),
@@ -83,10 +82,10 @@ impl Player {
         ensures answer { told result ≡ (obeying (rules_of self.now.system) (machine_of self.now state.now checkpoints.old) number (Call.Mark mark)).answer }
         ensures left { MatchResult result (λ _. checkpoints.new ≡ kept_words self.now.system.count mark self.now.time state.now checkpoints.old) (λ _. checkpoints.new ≡ checkpoints.old) }
     {
-        if mark as usize >= CHECKPOINTS {
+        if usize::from(mark) >= CHECKPOINTS {
             return Err(Refusal::Checkpoint(number));
         }
-        keep(self.system.count(), mark, self.time, state, checkpoints);
+        self.keep(mark, state, checkpoints);
         Ok(Answer::Time(self.time))
     }
 
@@ -95,9 +94,9 @@ impl Player {
         requires { state_length self.now.system.count ≤ length state.now }
         ensures { (checkpoints : List ℕ) → told result ≡ (obeying (rules_of self.now.system) (machine_of self.now state.now checkpoints) number (Call.Read body axis)).answer }
     {
-        let body = body as usize;
-        let axis = axis as usize;
-        if body >= self.system.count() || axis >= 3 {
+        let body = usize::from(body);
+        let axis = usize::from(axis);
+        if body >= self.count() || axis >= 3 {
             return Err(Refusal::Absent(number));
         }
         let at = 6 * body + 2 * axis;

@@ -71,10 +71,9 @@ fn set_up(
     ensures answer { verdict result ≡ room_told (count_in bytes.now) (length state.old) (length checkpoints.old) (length work.now) }
     ensures left { MatchResult result (λ player. Opened bytes.now player state.old state.new checkpoints.old checkpoints.new) (λ _. (state.new ≡ state.old) × (checkpoints.new ≡ checkpoints.old)) }
 {
-    let count = system.count();
-    check_room(count, state.len(), checkpoints.len(), work.len())?;
-    write_state(bytes, count, state);
-    checkpoints[0..CHECKPOINTS * checkpoint_size(count)].fill(0);
+    check_room(&system, state.len(), checkpoints.len(), work.len())?;
+    write_state(bytes, system.count(), state);
+    checkpoints[..CHECKPOINTS * checkpoint_size(&system)].fill(0);
     Ok(Player { system, time: 0 })
 }
 
@@ -94,7 +93,7 @@ fn read_count(bytes: &[u8]) -> Result<usize, Refusal>
     ensures value { IfOk result (λ n. (n ≡ count_in bytes.now) × (1 ≤ n) × (n ≤ 64)) }
 {
     check_length(bytes, 1)?;
-    let count = bytes[0] as usize;
+    let count = usize::from(bytes[0]);
     if count == 0 || count > System::MOST_BODIES {
         return Err(Refusal::Bodies);
     }

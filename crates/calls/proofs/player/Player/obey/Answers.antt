@@ -21,8 +21,7 @@ returns-in-Forward c =
     kept c.args.work.now c.arrive.new.work c.arrive.result c.checked_add-to.result _ (pos steps) (Time k) way
     c.checked_add-to.ensures c.arrive.ensures (ap obeyed c.in-Forward.is) (ap (checkpoints_after player.system.count player.time state kept) c.in-Forward.is) in
     record {
-      answer = with_room _ _ _ c.count-count.result player.system.count (length state) (length kept) (length c.args.work.now)
-          promised.answer c.in_ok-check_room.ensures c.count-count.ensures;
+      answer = with_room promised.answer c.in_ok-check_room.ensures;
       left = promised.left;
     }
 
@@ -39,8 +38,7 @@ returns-in-Back c =
     kept c.args.work.now c.arrive-in-Back.new.work c.arrive-in-Back.result c.checked_sub-to.result _ (neg_ℤ (pos steps)) (Time k) way
     c.checked_sub-to.ensures c.arrive-in-Back.ensures (ap obeyed c.in-Back.is) (ap (checkpoints_after player.system.count player.time state kept) c.in-Back.is) in
     record {
-      answer = with_room _ _ _ c.count-count.result player.system.count (length state) (length kept) (length c.args.work.now)
-          promised.answer c.in_ok-check_room.ensures c.count-count.ensures;
+      answer = with_room promised.answer c.in_ok-check_room.ensures;
       left = promised.left;
     }
 
@@ -52,14 +50,12 @@ returns-in-GoTo c =
     let k = c.args.number in
     let obeyed = obey (rules_of player.system) (machine_of player state kept) k in
     let to = c.in-GoTo.mark in
-    let same = ap (λ n. going (rules_of player.system) (machine_of player state kept) k (kept_in n kept to)) (sym c.count-count.ensures) in
     let promised = to_checkpoint k c.args.call player c.arrive-in-GoTo.new.self state c.arrive-in-GoTo.new.state
-    kept c.args.work.now c.arrive-in-GoTo.new.work c.arrive-in-GoTo.result c.kept_time-to.result (kept_in c.count-count.result kept to) (Checkpoint k)
-    c.kept_time-to.ensures c.arrive-in-GoTo.ensures (refl, refl) (ap obeyed c.in-GoTo.is ∙ same)
+    kept c.args.work.now c.arrive-in-GoTo.new.work c.arrive-in-GoTo.result c.kept_time-to.result (kept_in player.system.count kept to) (Checkpoint k)
+    c.kept_time-to.ensures c.arrive-in-GoTo.ensures (refl, refl) (ap obeyed c.in-GoTo.is)
     (ap (checkpoints_after player.system.count player.time state kept) c.in-GoTo.is) in
     record {
-      answer = with_room _ _ _ c.count-count.result player.system.count (length state) (length kept) (length c.args.work.now)
-          promised.answer c.in_ok-check_room.ensures c.count-count.ensures;
+      answer = with_room promised.answer c.in_ok-check_room.ensures;
       left = promised.left;
     }
 
@@ -79,7 +75,6 @@ returns-in-Mark c =
     (λ call. Promised k call c.mark.result player player state state kept c.mark.new.checkpoints c.args.work.now c.args.work.now)
     (sym c.in-Mark.is) made in
     record {
-      answer = with_room _ _ _ c.count-count.result player.system.count (length state) (length kept) (length c.args.work.now)
-          promised.answer c.in_ok-check_room.ensures c.count-count.ensures;
+      answer = with_room promised.answer c.in_ok-check_room.ensures;
       left = promised.left;
     }
