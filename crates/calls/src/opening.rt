@@ -31,7 +31,7 @@ impl Player {
         ensures left { MatchResult result (λ player. Opened bytes.now player state.old state.new checkpoints.old checkpoints.new) (λ _. (state.new ≡ state.old) × (checkpoints.new ≡ checkpoints.old)) }
     {
         let system = read_system(bytes)?;
-        let end = FIRST_BODY + BODY * system.count();
+        let end = body_at(system.count());
         if bytes.len() > end {
             return Err(Refusal::Length(end));
         }
@@ -55,8 +55,16 @@ impl Player {
     pub fn system_size(&self) -> usize
         ensures { result ≡ body_at self.now.system.count }
     {
-        FIRST_BODY + BODY * self.system.count()
+        body_at(self.count())
     }
+}
+
+/// Gives where the bytes of a body begin, and so the length of a system of so many bodies.
+fn body_at(body: usize) -> usize
+    requires { body ≤ 64 }
+    ensures { result ≡ body_at body }
+{
+    FIRST_BODY + BODY * body
 }
 
 /// Writes the state of a system that was read from `bytes`, and keeps no checkpoint.
@@ -138,23 +146,22 @@ fn read_mass(bytes: &[u8], body: usize) -> Result<Mass, Refusal>
     ensures value { IfOk result (λ m. m.value ≡ number_at 2 bytes.now (body_at body)) }
     ensures room { OnOk result (body_at (body + 1) ≤ length bytes.now) }
 {
-    let at = FIRST_BODY + BODY * body;
+    let at = body_at(body);
     check_length(bytes, at + 2)?;
     let mass = in_range(read_number(bytes, at, 2), at)?;
     check_length(bytes, at + BODY)?;
     Ok(mass)
 }
 
-/// Reads the masses of so many bodies.
-fn read_masses(bytes: &[u8], count: usize, masses: &mut [Mass]) -> Result<(), Refusal>
+/// Reads the masses of the bodies, as many as there is room for.
+fn read_masses(bytes: &[u8], masses: &mut [Mass]) -> Result<(), Refusal>
     requires bytes { body_at 0 ≤ length bytes.now }
-    requires count { count ≤ 64 }
-    requires masses { count ≤ length masses.old }
-    ensures answer { verdict result ≡ bodies_told bytes.now count 0 }
-    ensures values { OnOk result (MassesRead bytes.now count masses.new) }
+    requires masses { length masses.old ≤ 64 }
+    ensures answer { verdict result ≡ bodies_told bytes.now (length masses.old) 0 }
+    ensures values { OnOk result (MassesRead bytes.now (length masses.old) masses.new) }
 {
-    for b in 0..count {
-        masses[b] = read_mass(bytes, b)?;
+    for (body, mass) in masses.iter_mut().enumerate() {
+        *mass = read_mass(bytes, body)?;
     }
     Ok(())
 }
@@ -167,8 +174,9 @@ fn read_system(bytes: &[u8]) -> Result<System, Refusal>
     let count = read_count(bytes)?;
     let softening = read_softening(bytes)?;
     let mut masses = [Mass::LEAST; System::MOST_BODIES];
-    read_masses(bytes, count, &mut masses)?;
-    System::new(softening, &masses[0..count])
+    let masses = &mut masses[..count];
+    read_masses(bytes, masses)?;
+    System::new(softening, masses)
 }
 
 /// Writes a body's six words by the bytes behind its mass.
@@ -177,9 +185,9 @@ fn write_body(bytes: &[u8], words: &mut [u64])
     requires words { length words.old ≡ 6 }
     ensures { BodyWritten bytes.now words.new }
 {
-    for a in 0..3 {
-        words[2 * a + 1] = read_number(bytes, 26 + 8 * a, 8);
-        words[2 * a] = read_number(bytes, 2 + 8 * a, 8);
+    for axis in 0..3 {
+        words[2 * axis + 1] = read_number(bytes, 26 + 8 * axis, 8);
+        words[2 * axis] = read_number(bytes, 2 + 8 * axis, 8);
     }
 }
 
@@ -190,8 +198,8 @@ fn write_state(bytes: &[u8], count: usize, state: &mut [u64])
     requires state { 6 * count ≤ length state.old }
     ensures { BodiesWritten bytes.now count state.old state.new }
 {
-    for b in 0..count {
-        let at = FIRST_BODY + BODY * b;
-        write_body(&bytes[at..at + BODY], &mut state[6 * b..6 * b + 6]);
+    for body in 0..count {
+        let at = body_at(body);
+        write_body(&bytes[at..at + BODY], &mut state[6 * body..6 * body + 6]);
     }
 }

@@ -7,33 +7,32 @@ use Rattle.calls.specs.SystemBytes.{bodies_told}
 use Rattle.calls.proofs.Opened.{bodies_more, bodies_over, masses_more}
 use Rattle.calls.proofs.opening.read_masses.Goals as goal
 
-pub returns-in_err-masses : goal.returns-in_err-masses
-returns-in_err-masses c =
+pub returns-in_err-mass-clause-answer : goal.returns-in_err-mass-clause-answer
+returns-in_err-mass-clause-answer c =
     let p = err_from_is_err_and c.from_residual.result c.from_residual.ensures.1 in
     let bytes = c.args.bytes.now in
-    let b = c.loop-b.b in
-    rw (p.1, p.2) (record {
-      answer = sym (c.loop-b.invariant.0 ∙ bodies_more bytes c.args.count b c.loop-b-test.true
-          ∙ ap (λ t. provided t (bodies_told bytes (c.args.count - (b + 1)) (b + 1))) (sym c.in_err-masses.ensures.answer));
-      values = tt;
-    })
+    let n = length c.args.masses.now in
+    let b = c.loop-body.body in
+    rw (p.1, p.2) (sym (c.loop-body.invariant.0 ∙ bodies_more bytes n b (omega arith)
+    ∙ ap (λ t. provided t (bodies_told bytes (n - (b + 1)) (b + 1))) (sym c.in_err-mass.ensures.answer)))
 
-pub loop-b-preserved : goal.loop-b-preserved
-loop-b-preserved c =
+pub loop-body-preserved : goal.loop-body-preserved
+loop-body-preserved c =
     let bytes = c.args.bytes.now in
-    let b = c.loop-b.b in
-    let there : b < length c.loop-b.masses = omega arith in
-    let read = c.in_ok-masses.ensures in (
-      c.loop-b.invariant.0 ∙ bodies_more bytes c.args.count b c.loop-b-test.true
-          ∙ ap (λ t. provided t (bodies_told bytes (c.args.count - (b + 1)) (b + 1))) (sym read.answer),
-      masses_more bytes b c.loop-b.masses c.in_ok-masses.field-0 there read.room read.value c.loop-b.invariant.1,
+    let n = length c.args.masses.now in
+    let b = c.loop-body.body in
+    let there : b < length c.loop-body.masses = omega arith in
+    let read = c.in_ok-mass.ensures in (
+      c.loop-body.invariant.0 ∙ bodies_more bytes n b (omega arith) ∙ ap (λ t. provided t (bodies_told bytes (n - (b + 1)) (b + 1))) (sym read.answer),
+      masses_more bytes b c.loop-body.masses c.in_ok-mass.field-0 there read.room read.value c.loop-body.invariant.1,
     )
 
 pub returns : goal.returns
 returns c =
     let bytes = c.args.bytes.now in
-    let all : c.loop-b.b ≡ c.args.count = omega arith in
+    let n = length c.args.masses.now in
+    let all : c.loop-body.body ≡ n = omega arith in
     record {
-      answer = sym (c.loop-b.invariant.0 ∙ bodies_over bytes c.args.count c.loop-b.b c.loop-b-test.false);
-      values = subst (λ k. MassesRead bytes k c.loop-b.masses) all c.loop-b.invariant.1;
+      answer = sym (c.loop-body.invariant.0 ∙ bodies_over bytes n c.loop-body.body (omega arith));
+      values = subst (λ k. MassesRead bytes k c.loop-body.masses) all c.loop-body.invariant.1;
     }

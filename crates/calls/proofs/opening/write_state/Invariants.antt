@@ -2,5 +2,5 @@
 use Rattle.calls.specs.Opening.{BodiesWritten}
 use Rattle.calls.proofs.opening.write_state.Given as goal
 
-abbrev pub invariant-loop-b : goal.invariant-loop-b
-invariant-loop-b l = BodiesWritten l.bytes l.b l.initial.state l.state
+abbrev pub invariant-loop-body : goal.invariant-loop-body
+invariant-loop-body l = BodiesWritten l.bytes l.body l.initial.state l.state
