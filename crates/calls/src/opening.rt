@@ -10,6 +10,7 @@ use crate::checkpoints::{CHECKPOINTS, checkpoint_size};
 use crate::obeying::check_room;
 use distance::Softening;
 use motion::{Refusal, System};
+use std::array;
 use words::{Mass, Ranged, number_in};
 
 /// Where the bytes of the first body begin.
@@ -179,16 +180,14 @@ fn read_system(bytes: &[u8]) -> Result<System, Refusal>
     System::new(softening, masses)
 }
 
-/// Writes a body's six words by the bytes behind its mass.
-fn write_body(bytes: &[u8], words: &mut [u64])
-    requires bytes { length bytes.now ≡ 50 }
-    requires words { length words.old ≡ 6 }
-    ensures { BodyWritten bytes.now words.new }
+/// Reads the six words of a body, axis by axis a position and a momentum, from its bytes.
+fn body_words(bytes: &[u8]) -> [u64; 6]
+    requires { length bytes.now ≡ 50 }
+    ensures { BodyWritten bytes.now result }
 {
-    for axis in 0..3 {
-        words[2 * axis + 1] = read_number(bytes, 26 + 8 * axis, 8);
-        words[2 * axis] = read_number(bytes, 2 + 8 * axis, 8);
-    }
+    let [x, y, z, along_x, along_y, along_z]: [u64; 6] =
+        array::from_fn(|word| read_number(bytes, 2 + 8 * word, 8));
+    [x, along_x, y, along_y, z, along_z]
 }
 
 /// Writes the words of the state that a system's bytes hold.
@@ -198,8 +197,10 @@ fn write_state(bytes: &[u8], count: usize, state: &mut [u64])
     requires state { 6 * count ≤ length state.old }
     ensures { BodiesWritten bytes.now count state.old state.new }
 {
+    // By the number of the body: of what is written through `chunks_exact_mut` a proof knows nothing but the length.
     for body in 0..count {
         let at = body_at(body);
-        write_body(&bytes[at..at + BODY], &mut state[6 * body..6 * body + 6]);
+        let words = body_words(&bytes[at..at + BODY]);
+        state[6 * body..6 * body + 6].copy_from_slice(&words);
     }
 }
