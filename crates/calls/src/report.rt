@@ -128,14 +128,13 @@ fn make_calls(
     ensures behind { BehindSame player.old.system.count state.old state.new checkpoints.old checkpoints.new work.old work.new }
 {
     let mut at = from;
-    for number in 0..bytes.len() {
-        if at >= bytes.len() {
-            break;
-        }
+    let mut number = 0;
+    while at < bytes.len() {
         match make_call(player, bytes, number, at, state, checkpoints, work) {
             Ok((answer, next)) => {
                 text.push_str(line(heap, answer)?.as_str())?;
                 at = next;
+                number += 1;
             }
             Err(refusal) => return Ok(Some(refusal)),
         }
