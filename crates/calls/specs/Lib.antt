@@ -6,5 +6,6 @@ pub mod Opening
 pub mod Outcomes
 pub mod Promises
 pub mod Reports
+pub mod Rows
 pub mod SystemBytes
 pub mod Trace

@@ -11,6 +11,7 @@ mod obeying;
 mod opening;
 mod player;
 mod report;
+mod row;
 pub mod theorems;
 
 pub use answer::Answer;

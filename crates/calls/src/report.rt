@@ -1,14 +1,16 @@
 //! Whole rows of calls, and the text that tells of them.
-ghost use Rattle.std.specs.Prelude.{◌≡◌, ◌<◌, [], ◌++◌, length, IfOk, string_bytes, codes, MatchResult};
+ghost use Rattle.std.specs.Prelude.{◌≡◌, ℕ, List, [], ◌++◌, length, IfOk, string_bytes, codes, MatchResult};
 ghost use Rattle.motion.specs.Refusals.{good, refusal_line as refused_as};
 ghost use Rattle.calls.specs.Answers.{answer_text};
 ghost use Rattle.calls.specs.Calls.{row_in};
 ghost use Rattle.calls.specs.Checkpoints.{machine_of};
 ghost use Rattle.calls.specs.Machine.{rules_of};
 ghost use Rattle.calls.specs.Reports.{BehindSame, GoesOn, Stops, RowTold, Left, end_told, rest_of, opening_told, trace_in};
+ghost use Rattle.calls.specs.Rows.{IsRead};
 ghost use Rattle.calls.specs.SystemBytes.{count_in, room_told};
 ghost use Rattle.calls.specs.Trace.{ending, lines, trace};
 
+use crate::row::Row;
 use crate::{Answer, Call, Player};
 use motion::Refusal;
 use std::alloc::{AllocError, Global};
@@ -91,23 +93,19 @@ fn line(heap: Global, answer: Answer) -> Result<String, AllocError>
     format!(in heap; "{answer}\n")
 }
 
-/// Makes the call whose bytes begin at `at`. Gives its answer, and where the next call begins.
+/// Makes call `number`, if it could be read.
 fn make_call(
     player: &mut Player,
-    bytes: &[u8],
     number: usize,
-    at: usize,
+    call: Result<Call, Refusal>,
     state: &mut [u64],
     checkpoints: &mut [u64],
     work: &mut [u64],
-) -> Result<(Answer, usize), Refusal>
-    requires at { at < length bytes.now }
-    requires room { room_told player.old.system.count (length state.old) (length checkpoints.old) (length work.old) ≡ good tt }
-    ensures { MatchResult result (λ made. GoesOn bytes.now number at made.0 made.1 player.old player.new state.old state.new checkpoints.old checkpoints.new work.old work.new) (λ refusal. Stops bytes.now number at refusal player.old player.new state.old state.new checkpoints.old checkpoints.new work.old work.new) }
+) -> Result<Answer, Refusal>
+    requires { room_told player.old.system.count (length state.old) (length checkpoints.old) (length work.old) ≡ good tt }
+    ensures { (bytes : List ℕ) (at to : ℕ) → IsRead bytes number at call to → MatchResult result (λ answer. GoesOn bytes number at answer to player.old player.new state.old state.new checkpoints.old checkpoints.new work.old work.new) (λ refusal. Stops bytes number at refusal player.old player.new state.old state.new checkpoints.old checkpoints.new work.old work.new) }
 {
-    let call = Call::decode(bytes, number, at)?;
-    let answer = player.obey(call, number, state, checkpoints, work)?;
-    Ok((answer, at + call.size()))
+    player.obey(call?, number, state, checkpoints, work)
 }
 
 /// Makes the calls from `from` on, up to the end of the bytes or to one that is refused, and appends a line for each answer.
@@ -127,15 +125,9 @@ fn make_calls(
     ensures system { player.new.system ≡ player.old.system }
     ensures behind { BehindSame player.old.system.count state.old state.new checkpoints.old checkpoints.new work.old work.new }
 {
-    let mut at = from;
-    let mut number = 0;
-    while at < bytes.len() {
-        match make_call(player, bytes, number, at, state, checkpoints, work) {
-            Ok((answer, next)) => {
-                text.push_str(line(heap, answer)?.as_str())?;
-                at = next;
-                number += 1;
-            }
+    for (number, call) in Row::new(bytes, from) {
+        match make_call(player, number, call, state, checkpoints, work) {
+            Ok(answer) => text.push_str(line(heap, answer)?.as_str())?,
             Err(refusal) => return Ok(Some(refusal)),
         }
     }

@@ -1,62 +1,66 @@
 -- One call of a row is what the trace says of it.
-use Rattle.std.proofs.Common.{◌≡◌, ◌+◌, sym, refl, ap, ◌∙◌, arith}
+use Rattle.std.proofs.Common.{◌≡◌, ℕ, ◌+◌, List, Ok, Err, Result, MatchResult, sym, refl, ap, ◌∙◌, subst}
 use Rattle.std.proofs.lemmas.Result.{err_from_is_err_and}
-use Rattle.motion.specs.Refusals.{number_of, place_of}
-use Rattle.calls.specs.Calls.{size_of, row_from}
+use Rattle.motion.specs.Refusals.{number_of, place_of, told}
+use Rattle.motion.specs.declared.refusal.Refusal.{Refusal}
+use Rattle.calls.specs.Calls.{row_from}
 use Rattle.calls.specs.Checkpoints.{machine_of}
 use Rattle.calls.specs.Machine.{rules_of, provided, obey}
+use Rattle.calls.specs.Outcomes.{Obeyed, Untouched}
+use Rattle.calls.specs.Reports.{GoesOn, Stops}
+use Rattle.calls.specs.Rows.{IsRead}
 use Rattle.calls.specs.Trace.{answered, trace}
+use Rattle.calls.specs.declared.answer.Answer.{Answer}
+use Rattle.calls.specs.declared.call.Call.{Call}
+use Rattle.calls.specs.declared.player.Player.{Player}
 use Rattle.calls.proofs.Traced.{trace_fault, trace_refused, trace_answered}
 use Rattle.calls.proofs.report.make_call.Goals as goal
 
+-- a call that was read is obeyed, or refused
+obeyed : (call : Call) (k : ℕ) (player after : Player) (state state_after checkpoints checkpoints_after work work_after : List ℕ) (result : Result Answer Refusal) →
+    told result ≡ (obey (rules_of player.system) (machine_of player state checkpoints) k call).answer →
+    MatchResult result (λ _. Obeyed k call player after state state_after checkpoints checkpoints_after work work_after)
+    (λ _. Untouched player after state state_after checkpoints checkpoints_after work work_after) →
+    (bytes : List ℕ) (at to : ℕ) → IsRead bytes k at (Ok call) to →
+    MatchResult result (λ answer. GoesOn bytes k at answer to player after state state_after checkpoints checkpoints_after work work_after)
+    (λ refusal. Stops bytes k at refusal player after state state_after checkpoints checkpoints_after work work_after)
+obeyed call k player after state state_after checkpoints checkpoints_after work work_after (Ok answer) said left bytes at to read =
+    let rules = rules_of player.system in
+    let there = machine_of after state_after checkpoints_after in
+    record {
+      trace_on = λ most. trace_answered rules (machine_of player state checkpoints) bytes k at read.there most call answer there (sym read.call_is) (sym said) left.machine
+          ∙ ap (λ n. answered answer there (trace rules there (k + 1) (row_from bytes most (k + 1) n))) (sym read.next_is);
+      further = read.further;
+      system = left.outside.system;
+      behind = record {
+        state_behind = left.outside.state_behind;
+        checkpoints_behind = left.checkpoints_behind;
+        work_behind = left.outside.work_behind;
+      };
+    }
+obeyed call k player after state state_after checkpoints checkpoints_after work work_after (Err e) said left bytes at to read = record {
+  trace_off = λ most. trace_refused (rules_of player.system) (machine_of player state checkpoints) bytes k at read.there most call (number_of e) (place_of e)
+      (sym read.call_is) (sym said);
+  same = left;
+}
+
 pub returns-in_err-call : goal.returns-in_err-call
-returns-in_err-call c =
+returns-in_err-call c = λ bytes at to read.
     let p = err_from_is_err_and c.from_residual.result c.from_residual.ensures.1 in
     let player = c.args.player.now in
     let e = c.in_err-call.field-0.0 in
+    let fault : IsRead bytes c.args.number at (Err e) to = subst (λ r. IsRead bytes c.args.number at r to) c.in_err-call.was read in
     rw (p.1, p.2) (record {
-      trace_off = λ most. trace_fault (rules_of player.system) (machine_of player c.args.state.now c.args.checkpoints.now) c.args.bytes.now c.args.number c.args.at
-          c.requires.at most (number_of e) (place_of e) (sym c.in_err-call.ensures.answer);
+      trace_off = λ most. trace_fault (rules_of player.system) (machine_of player c.args.state.now c.args.checkpoints.now) bytes c.args.number at
+          fault.there most (number_of e) (place_of e) (sym fault.call_is);
       same = record { player_same = refl; state_same = refl; checkpoints_same = refl; work_same = refl };
     })
 
-pub overflow_add-result : goal.overflow_add-result
-overflow_add-result c = omega (arith, c.in_ok-call.ensures.within)
-
-pub returns-in_err-answer : goal.returns-in_err-answer
-returns-in_err-answer c =
-    let p = err_from_is_err_and c.from_residual-in_err-answer.result c.from_residual-in_err-answer.ensures.1 in
-    let player = c.args.player.now in
-    let call = c.in_ok-call.call in
-    let e = c.in_err-answer.field-0.0 in
-    let m = machine_of player c.args.state.now c.args.checkpoints.now in
-    let why = c.in_err-answer.ensures.answer ∙ ap (λ t. provided t (obey (rules_of player.system) m c.args.number call).answer) c.requires.room in
-    rw (p.1, p.2) (record {
-      trace_off = λ most. trace_refused (rules_of player.system) m c.args.bytes.now c.args.number c.args.at
-          c.requires.at most call (number_of e) (place_of e) (sym c.in_ok-call.ensures.answer) (sym why);
-      same = c.in_err-answer.ensures.left;
-    })
-
 pub returns : goal.returns
-returns c =
+returns c = λ bytes at to read.
     let player = c.args.player.now in
-    let call = c.in_ok-call.call in
-    let answer = c.in_ok-answer.answer in
     let m = machine_of player c.args.state.now c.args.checkpoints.now in
-    let said = c.in_ok-answer.ensures.answer ∙ ap (λ t. provided t (obey (rules_of player.system) m c.args.number call).answer) c.requires.room in
-    let obeyed = c.in_ok-answer.ensures.left in
-    let after = machine_of c.obey.new.self c.obey.new.state c.obey.new.checkpoints in
-    let to : c.args.at + c.size.result ≡ c.args.at + size_of call = ap (λ n. c.args.at + n) c.size.ensures in
-    record {
-      trace_on = λ most. trace_answered (rules_of player.system) m c.args.bytes.now c.args.number c.args.at
-          c.requires.at most call answer after
-          (sym c.in_ok-call.ensures.answer) (sym said) obeyed.machine
-          ∙ ap (λ n. answered answer after (trace (rules_of player.system) after (c.args.number + 1) (row_from c.args.bytes.now most (c.args.number + 1) n))) (sym to);
-      further = omega arith;
-      system = obeyed.outside.system;
-      behind = record {
-        state_behind = obeyed.outside.state_behind;
-        checkpoints_behind = obeyed.checkpoints_behind;
-        work_behind = obeyed.outside.work_behind;
-      };
-    }
+    let call = c.in_ok-call.field-0 in
+    let said = c.obey.ensures.answer ∙ ap (λ t. provided t (obey (rules_of player.system) m c.args.number call).answer) c.requires in
+    obeyed call c.args.number player c.obey.new.self _ _ _ _ _ _ c.obey.result said c.obey.ensures.left bytes at to
+    (subst (λ r. IsRead bytes c.args.number at r to) c.in_ok-call.was read)
