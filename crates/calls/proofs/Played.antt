@@ -32,10 +32,10 @@ pub lines_none : (text whole : List ℕ) → whole ≡ text ++ lines (rest_of No
 unfolding lines
 lines_none text whole e = sym (e ∙ append-nil text)
 
-pub lines_some : (refusal : Refusal) (text whole line now : List ℕ) → whole ≡ text ++ lines (rest_of (Some refusal)) → line ≡ refusal_line refusal ++ codes "\n" →
-    now ≡ text ++ line → now ≡ whole
+pub lines_some : (refusal : Refusal) (text whole now : List ℕ) → whole ≡ text ++ lines (rest_of (Some refusal)) →
+    now ≡ text ++ (refusal_line refusal ++ codes "\n") → now ≡ whole
 unfolding lines
-lines_some refusal text whole line now e is joined = joined ∙ ap (λ l. text ++ l) is ∙ sym e
+lines_some refusal text whole now e joined = joined ∙ sym e
 
 -- a refused opening is told as a whole
 pub refused_told : (bytes text : List ℕ) (refusal : Refusal) (verdict : Told (Unit {0})) → refused (number_of refusal) (place_of refusal) ≡ verdict → text ≡ [] →

@@ -66,13 +66,13 @@ module _ {whole : Trace} {opening : Machine} {text : List ℕ} {m : Machine} {re
   told_at {other} e = subst (λ n. SoFar whole opening text n rest) e so_far
 
   -- one answer more
-  pub told_more : (answer : Answer) (after : Machine) (more : Trace) (line now : List ℕ) → rest ≡ answered answer after more →
-      line ≡ answer_text answer ++ codes "\n" → now ≡ text ++ line → SoFar whole opening now after more
+  pub told_more : (answer : Answer) (after : Machine) (more : Trace) (now : List ℕ) → rest ≡ answered answer after more →
+      now ≡ text ++ (answer_text answer ++ codes "\n") → SoFar whole opening now after more
   unfolding last lines ending
-  told_more answer after more line now e is joined = record {
+  told_more answer after more now e joined = record {
     text_so_far = so_far.text_so_far ∙ ap (λ r. text ++ lines r) e
         ∙ ap (λ l. text ++ l) (sym (append_assoc (answer_text answer) (codes "\n") (lines more)))
-        ∙ ap (λ l. text ++ (l ++ lines more)) (sym is) ∙ sym (append_assoc text line (lines more)) ∙ ap (λ l. l ++ lines more) (sym joined);
+        ∙ sym (append_assoc text (answer_text answer ++ codes "\n") (lines more)) ∙ ap (λ l. l ++ lines more) (sym joined);
     last_so_far = so_far.last_so_far ∙ ap (last m) e;
     ending_so_far = so_far.ending_so_far ∙ ap ending e;
   }

@@ -1,7 +1,6 @@
 //! Whole rows of calls, and the text that tells of them.
-ghost use Rattle.std.specs.Prelude.{◌≡◌, ℕ, List, [], ◌++◌, length, IfOk, string_bytes, codes, MatchResult};
-ghost use Rattle.motion.specs.Refusals.{good, refusal_line as refused_as};
-ghost use Rattle.calls.specs.Answers.{answer_text};
+ghost use Rattle.std.specs.Prelude.{◌≡◌, ℕ, List, [], ◌++◌, length, IfOk, string_bytes, MatchResult};
+ghost use Rattle.motion.specs.Refusals.{good};
 ghost use Rattle.calls.specs.Calls.{row_in};
 ghost use Rattle.calls.specs.Checkpoints.{machine_of};
 ghost use Rattle.calls.specs.Machine.{rules_of};
@@ -39,16 +38,15 @@ pub fn run_calls(
     ensures behind { BehindSame (count_in bytes.now) state.old state.new checkpoints.old checkpoints.new work.old work.new }
 {
     let mut text = String::new(heap);
-    let refusal = play(heap, bytes, &mut text, state, checkpoints, work)?;
+    let refusal = play(bytes, &mut text, state, checkpoints, work)?;
     if let Some(refusal) = refusal {
-        text.push_str(refusal_line(heap, refusal)?.as_str())?;
+        writeln!(text, "{refusal}")?;
     }
     Ok(Report { text, refusal })
 }
 
 /// Opens the system and makes the calls; appends a line for each answer.
 fn play(
-    heap: Global,
     bytes: &[u8],
     text: &mut String,
     state: &mut [u64],
@@ -66,7 +64,6 @@ fn play(
             let from = player.system_size();
             make_calls(
                 &mut player,
-                heap,
                 bytes,
                 from,
                 text,
@@ -77,20 +74,6 @@ fn play(
         }
         Err(refusal) => Ok(Some(refusal)),
     }
-}
-
-/// Writes the line of a refusal.
-fn refusal_line(heap: Global, refusal: Refusal) -> Result<String, AllocError>
-    ensures { IfOk result (λ text. string_bytes text ≡ refused_as refusal ++ codes "\n") }
-{
-    format!(in heap; "{refusal}\n")
-}
-
-/// Writes the line of an answer.
-fn line(heap: Global, answer: Answer) -> Result<String, AllocError>
-    ensures { IfOk result (λ text. string_bytes text ≡ answer_text answer ++ codes "\n") }
-{
-    format!(in heap; "{answer}\n")
 }
 
 /// Makes call `number`, if it could be read.
@@ -111,7 +94,6 @@ fn make_call(
 /// Makes the calls from `from` on, up to the end of the bytes or to one that is refused, and appends a line for each answer.
 fn make_calls(
     player: &mut Player,
-    heap: Global,
     bytes: &[u8],
     from: usize,
     text: &mut String,
@@ -127,7 +109,7 @@ fn make_calls(
 {
     for (number, call) in Row::new(bytes, from) {
         match make_call(player, number, call, state, checkpoints, work) {
-            Ok(answer) => text.push_str(line(heap, answer)?.as_str())?,
+            Ok(answer) => writeln!(text, "{answer}")?,
             Err(refusal) => return Ok(Some(refusal)),
         }
     }
