@@ -61,16 +61,8 @@ fn play(
 {
     match Player::open_in_front(bytes, state, checkpoints, work) {
         Ok(mut player) => {
-            let from = player.system_size();
-            make_calls(
-                &mut player,
-                bytes,
-                from,
-                text,
-                state,
-                checkpoints,
-                work,
-            )
+            let calls = Row::new(bytes, player.system_size());
+            make_calls(&mut player, calls, text, state, checkpoints, work)
         }
         Err(refusal) => Ok(Some(refusal)),
     }
@@ -91,23 +83,23 @@ fn make_call(
     player.obey(call?, number, state, checkpoints, work)
 }
 
-/// Makes the calls from `from` on, up to the end of the bytes or to one that is refused, and appends a line for each answer.
+/// Makes the calls of a row, up to the last or to one that is refused, and appends a line for each answer.
 fn make_calls(
     player: &mut Player,
-    bytes: &[u8],
-    from: usize,
+    calls: Row<'_>,
     text: &mut String,
     state: &mut [u64],
     checkpoints: &mut [u64],
     work: &mut [u64],
 ) -> Result<Option<Refusal>, AllocError>
     requires room { room_told player.old.system.count (length state.old) (length checkpoints.old) (length work.old) ≡ good tt }
+    requires calls { calls.number ≡ 0 }
     requires text { string_bytes text.old ≡ [] }
-    ensures told { IfOk result (λ refusal. RowTold (trace (rules_of player.old.system) (machine_of player.old state.old checkpoints.old) 0 (row_in bytes.now from)) (machine_of player.old state.old checkpoints.old) (string_bytes text.new) (machine_of player.new state.new checkpoints.new) refusal) }
+    ensures told { IfOk result (λ refusal. RowTold (trace (rules_of player.old.system) (machine_of player.old state.old checkpoints.old) 0 (row_in calls.entry.bytes.now calls.entry.at)) (machine_of player.old state.old checkpoints.old) (string_bytes text.new) (machine_of player.new state.new checkpoints.new) refusal) }
     ensures system { player.new.system ≡ player.old.system }
     ensures behind { BehindSame player.old.system.count state.old state.new checkpoints.old checkpoints.new work.old work.new }
 {
-    for (number, call) in Row::new(bytes, from) {
+    for (number, call) in calls {
         match make_call(player, number, call, state, checkpoints, work) {
             Ok(answer) => writeln!(text, "{answer}")?,
             Err(refusal) => return Ok(Some(refusal)),

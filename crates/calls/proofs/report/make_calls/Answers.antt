@@ -13,12 +13,13 @@ returns-clause-told c =
     let l = c.loop-number in
     let row = l.number-iterator in
     let past = subst (λ b. length b ≤ row.at) l.invariant.row c.in-None.ensures.steps in
-    told_same l.invariant.told ended (trace_over (rules_of c.args.player.now.system) (machine_of l.player l.state l.checkpoints) c.args.bytes.now row.number row.at _ past)
+    told_same l.invariant.told ended
+    (trace_over (rules_of c.args.player.now.system) (machine_of l.player l.state l.checkpoints) c.args.calls.bytes.now row.number row.at _ past)
 
 pub returns-in-Err-clause-told : goal.returns-in-Err-clause-told
 returns-in-Err-clause-told c =
     let l = c.loop-number in
-    let bytes = c.args.bytes.now in
+    let bytes = c.args.calls.bytes.now in
     let at = l.number-iterator.at in
     let n = c.in-Some.number in
     let steps = c.in-Some.ensures.steps in
@@ -37,7 +38,7 @@ returns-in-Err-clause-told c =
 pub loop-number-preserved : goal.loop-number-preserved
 loop-number-preserved c =
     let l = c.loop-number in
-    let bytes = c.args.bytes.now in
+    let bytes = c.args.calls.bytes.now in
     let at = l.number-iterator.at in
     let to = c.next.new.self.at in
     let n = c.in-Some.number in

@@ -1,11 +1,13 @@
 -- The opening and the calls together are the trace in the bytes.
-use Rattle.std.proofs.Common.{drop, string_bytes, sym, refl, ap, ◌∙◌, subst}
+use Rattle.std.proofs.Common.{drop, IfOk, string_bytes, sym, refl, ap, ◌∙◌, subst}
 use Rattle.std.proofs.lemmas.Result.{IfOk-weaker}
 use Rattle.motion.specs.Memory.{state_length}
-use Rattle.calls.specs.Checkpoints.{checkpoints_length}
-use Rattle.calls.specs.Reports.{Left, trace_in}
+use Rattle.calls.specs.Calls.{row_in}
+use Rattle.calls.specs.Checkpoints.{checkpoints_length, machine_of}
+use Rattle.calls.specs.Machine.{rules_of}
+use Rattle.calls.specs.Reports.{RowTold, Left, trace_in}
 use Rattle.calls.specs.SystemBytes.{count_in}
-use Rattle.calls.specs.Trace.{lines, ending}
+use Rattle.calls.specs.Trace.{lines, ending, trace}
 use Rattle.calls.proofs.Played.{refused_told, refused_ending, played_lines, played_ending, played, opened_behind}
 use Rattle.calls.proofs.Traced.{behind_then}
 use Rattle.calls.proofs.report.play.Goals as goal
@@ -43,16 +45,19 @@ returns-in-Ok c =
     let cleared = c.open_in_front.new.checkpoints in
     let ends = c.make_calls.new.state in
     let marks = c.make_calls.new.checkpoints in
-    let from = c.system_size-from.result in
-    let starts = c.system_size-from.ensures in
+    let from = c.new-calls.result.at in
+    let starts = c.new-calls.ensures.at ∙ c.system_size.ensures in
+    let told_row = subst
+    (λ b. IfOk c.make_calls.result (RowTold (trace (rules_of player.system) (machine_of player begun cleared) 0 (row_in b from)) (machine_of player begun cleared) text
+    (machine_of after ends marks))) c.new-calls.ensures.bytes made.told in
     record {
       text = IfOk-weaker c.make_calls.result _ _ (λ refusal told. ap (λ v. lines (trace_in bytes v)) (sym e.answer)
-          ∙ played_lines bytes player after state begun ends kept cleared marks text from e.left starts made.system refusal told) made.told;
+          ∙ played_lines bytes player after state begun ends kept cleared marks text from e.left starts made.system refusal told) told_row;
       refusal = IfOk-weaker c.make_calls.result _ _ (λ refusal told.
           played_ending bytes player after state begun ends kept cleared marks text from e.left starts made.system refusal told
-          ∙ ap (λ v. ending (trace_in bytes v)) e.answer) made.told;
+          ∙ ap (λ v. ending (trace_in bytes v)) e.answer) told_row;
       left = IfOk-weaker c.make_calls.result _ _ (λ refusal told.
           subst (λ v. Left bytes v state ends kept marks work c.make_calls.new.work) e.answer
-          (played bytes player after state begun ends kept cleared marks text from e.left starts made.system refusal told)) made.told;
+          (played bytes player after state begun ends kept cleared marks text from e.left starts made.system refusal told)) told_row;
       behind = behind_then (ap (λ r. r.count) e.left.rules) (opened_behind bytes player state begun kept cleared work e.left) made.behind;
     }
