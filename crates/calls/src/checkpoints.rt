@@ -19,14 +19,12 @@ pub(crate) fn checkpoint_size(system: &System) -> usize
     6 * system.count() + 2
 }
 
-// A checkpoint is words with a flag in front, and no struct: the caller lends the words of all sixteen, and their layout is
-// what `Checkpoints` defines.
-
 /// Writes a checkpoint: that it is kept, its time, and the words of its state.
 fn write_checkpoint(words: &mut [u64], time: i64, state: &[u64])
     requires { length words.old ≡ length state.now + 2 }
     ensures { words.new ≡ 1 ∷ of_z w64 time ∷ state.now }
 {
+    // A flag and a time in front of a state, and no `Option`: the caller lends words, and these are their layout.
     words[0] = 1;
     words[1] = time.cast_unsigned();
     words[2..].copy_from_slice(state);

@@ -15,7 +15,7 @@ use motion::Refusal;
 use std::alloc::{AllocError, Global};
 
 /// What a run tells.
-#[derive(Drop)]
+#[derive(PartialEq, Eq, Debug, Drop)]
 pub struct Report {
     /// A line for each call, and one for a refusal.
     pub text: String,
