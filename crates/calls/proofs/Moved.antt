@@ -127,7 +127,3 @@ module _ (k c : ℕ) (player : Player) (state checkpoints checkpoints_left work 
       | inr t ↦ let no : good answer ≡ refused 5 k = e ∙ ap (λ b. (by_test b).answer) t.0 in let z : ◌≡◌ {A = ℕ} 0 1 = cc in absurd (omega arith)
     ];
   }
-
--- where there is room, what is promised is what is told
-pub with_room : {X : Type 0} {x y : Told X} {u : Unit {0}} {room : Told (Unit {0})} → x ≡ y → good u ≡ room → x ≡ provided room y
-with_room {y = y} e enough = e ∙ ap (λ t. provided t y) enough

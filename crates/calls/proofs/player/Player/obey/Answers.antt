@@ -5,11 +5,11 @@ use Rattle.motion.specs.declared.refusal.Refusal.TheVariants.{Time, Checkpoint}
 use Rattle.calls.specs.Checkpoints.{checkpoints_length, machine_of, kept_in}
 use Rattle.calls.specs.Machine.{going, obey, rules_of}
 use Rattle.calls.specs.Outcomes.{checkpoints_after}
-use Rattle.calls.proofs.Moved.{Promised, by_steps, to_checkpoint, marked, with_room}
+use Rattle.calls.proofs.Moved.{Promised, by_steps, to_checkpoint, marked}
 use Rattle.calls.proofs.player.Player.obey.Goals as goal
 
-pub returns-in-Forward : goal.returns-in-Forward
-returns-in-Forward c =
+pub returns-in-Forward-clause-left : goal.returns-in-Forward-clause-left
+returns-in-Forward-clause-left c =
     let player = c.args.self.now in
     let state = c.args.state.now in
     let kept = c.args.checkpoints.now in
@@ -20,13 +20,10 @@ returns-in-Forward c =
     let promised = by_steps k c.args.call player c.arrive.new.self state c.arrive.new.state
     kept c.args.work.now c.arrive.new.work c.arrive.result c.checked_add-to.result _ (pos steps) (Time k) way
     c.checked_add-to.ensures c.arrive.ensures (ap obeyed c.in-Forward.is) (ap (checkpoints_after player.system.count player.time state kept) c.in-Forward.is) in
-    record {
-      answer = with_room promised.answer c.in_ok-check_room.ensures;
-      left = promised.left;
-    }
+    promised.left
 
-pub returns-in-Back : goal.returns-in-Back
-returns-in-Back c =
+pub returns-in-Back-clause-left : goal.returns-in-Back-clause-left
+returns-in-Back-clause-left c =
     let player = c.args.self.now in
     let state = c.args.state.now in
     let kept = c.args.checkpoints.now in
@@ -37,13 +34,10 @@ returns-in-Back c =
     let promised = by_steps k c.args.call player c.arrive-in-Back.new.self state c.arrive-in-Back.new.state
     kept c.args.work.now c.arrive-in-Back.new.work c.arrive-in-Back.result c.checked_sub-to.result _ (neg_ℤ (pos steps)) (Time k) way
     c.checked_sub-to.ensures c.arrive-in-Back.ensures (ap obeyed c.in-Back.is) (ap (checkpoints_after player.system.count player.time state kept) c.in-Back.is) in
-    record {
-      answer = with_room promised.answer c.in_ok-check_room.ensures;
-      left = promised.left;
-    }
+    promised.left
 
-pub returns-in-GoTo : goal.returns-in-GoTo
-returns-in-GoTo c =
+pub returns-in-GoTo-clause-left : goal.returns-in-GoTo-clause-left
+returns-in-GoTo-clause-left c =
     let player = c.args.self.now in
     let state = c.args.state.now in
     let kept = c.args.checkpoints.now in
@@ -54,13 +48,10 @@ returns-in-GoTo c =
     kept c.args.work.now c.arrive-in-GoTo.new.work c.arrive-in-GoTo.result c.kept_time-to.result (kept_in player.system.count kept to) (Checkpoint k)
     c.kept_time-to.ensures c.arrive-in-GoTo.ensures (refl, refl) (ap obeyed c.in-GoTo.is)
     (ap (checkpoints_after player.system.count player.time state kept) c.in-GoTo.is) in
-    record {
-      answer = with_room promised.answer c.in_ok-check_room.ensures;
-      left = promised.left;
-    }
+    promised.left
 
-pub returns-in-Mark : goal.returns-in-Mark
-returns-in-Mark c =
+pub returns-in-Mark-clause-left : goal.returns-in-Mark-clause-left
+returns-in-Mark-clause-left c =
     let player = c.args.self.now in
     let state = c.args.state.now in
     let kept = c.args.checkpoints.now in
@@ -74,7 +65,4 @@ returns-in-Mark c =
     let promised = subst
     (λ call. Promised k call c.mark.result player player state state kept c.mark.new.checkpoints c.args.work.now c.args.work.now)
     (sym c.in-Mark.is) made in
-    record {
-      answer = with_room promised.answer c.in_ok-check_room.ensures;
-      left = promised.left;
-    }
+    promised.left
