@@ -1,9 +1,8 @@
 -- Calls in bytes: what stands in front of a part is what stands at its place in the whole.
 use Rattle.std.proofs.Common.{◌≡◌, ℕ, suc, ◌+◌, ◌^◌, ◌-◌, ◌<◌, ◌≤◌, cond, ◌⊎◌, List, [], ◌∷◌, ◌++◌, length, get_or, take, drop, length-drop, is_ok, IfOk, Some, None, Ok, Err, Option, Result, sym, refl, ap, ◌∙◌, subst, inl, inr, add-zero, add_assoc, mod-eq_of_lt, one-add, arith, le-leb}
 use borrow.Author.Tests.{lt-leb}
-use Rattle.std.specs.List.{between}
 use Rattle.std.specs.declared.alloc.AllocError.{AllocError}
-use Rattle.std.proofs.lemmas.List.{get_or-drop, get_or-append-add, get_or_append_left, length-append, append_assoc, take_rest, drop_more}
+use Rattle.std.proofs.lemmas.List.{get_or-drop, get_or-append-add, get_or_append_left, length-append, append_assoc, drop_more}
 use Rattle.std.proofs.lemmas.Bool.Decides.{eqb_tells, leb_tells}
 use Rattle.words.specs.Bytes.{number_at, bytes_of}
 use Rattle.words.proofs.InBytes.{number_moved, bytes_of_number, number_of_bytes, length-bytes_of}

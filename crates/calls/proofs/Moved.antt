@@ -4,12 +4,11 @@ use lib.Signed.{mag}
 use Rattle.std.proofs.lemmas.Int.{ints}
 use Rattle.std.proofs.lemmas.Bool.Decides.{leb_tells}
 use Rattle.std.specs.Option.{SomeIff}
-use Rattle.motion.specs.Refusals.{Told, good, refused, told, number_of, place_of}
+use Rattle.motion.specs.Refusals.{good, refused, told, number_of, place_of}
 use Rattle.motion.specs.declared.refusal.Refusal.{Refusal}
 use Rattle.calls.specs.Checkpoints.{kept_in, kept_words, machine_of, HoldsTime, checkpoints_length}
-use Rattle.calls.specs.Machine.{rules_of, Machine, Checkpoint, Reply, in_range, provided, refuse, keep, moved_by, moving, going, obey}
+use Rattle.calls.specs.Machine.{rules_of, Machine, Checkpoint, Reply, in_range, refuse, keep, moved_by, moving, going, obey}
 use Rattle.calls.specs.Outcomes.{Gone, Arrived, Obeyed, Untouched, checkpoints_after}
-use Rattle.calls.specs.SystemBytes.{room_told}
 use Rattle.calls.specs.declared.answer.Answer.{Answer}
 use Rattle.calls.specs.declared.answer.Answer.TheVariants.{Time}
 use Rattle.calls.specs.declared.call.Call.{Call}

@@ -1,9 +1,9 @@
 -- A system in bytes: what is told of it body by body, and that masses and words are those in the bytes.
-use Rattle.std.proofs.Common.{◌≡◌, ℕ, suc, ◌+◌, ◌-◌, ◌*◌, ◌<◌, ◌≤◌, cond, ltb, ◌⊎◌, List, ◌++◌, map, length, get_or, take, drop, set, replicate, pos, IfOk, None, Ok, Err, Result, sym, refl, ap, ◌∙◌, subst, inl, inr, arith, MatchResult}
+use Rattle.std.proofs.Common.{◌≡◌, ℕ, suc, ◌+◌, ◌-◌, ◌*◌, ◌<◌, ◌≤◌, List, ◌++◌, map, length, get_or, drop, set, replicate, pos, None, sym, refl, ap, ◌∙◌, subst, inl, inr, arith}
 use borrow.Rule.Slice.PartMut.{put_mid}
 use Rattle.std.specs.List.{between}
 use Rattle.std.proofs.lemmas.List.Edits.{get_or-between}
-use Rattle.std.proofs.lemmas.List.{map-set, get_or-set_same, get_or-set_other, get_or-take, get_or-replicate, get_or_append_left, length-map, length-replicate, take-map, drop-drop}
+use Rattle.std.proofs.lemmas.List.{map-set, get_or-set_same, get_or-set_other, get_or-replicate, get_or_append_left, length-map, length-replicate, drop-drop}
 use Rattle.std.proofs.lemmas.Slice.{drop-put_mid}
 use Rattle.std.proofs.lemmas.Bool.Decides.{eqb_tells, leb_tells}
 use Rattle.words.specs.Bytes.{number_at}
@@ -11,17 +11,14 @@ use Rattle.words.specs.Masses.{Mass}
 use Rattle.words.proofs.InBytes.{number_moved}
 use Rattle.motion.specs.Memory.{state_of, held, position_at, momentum_at, state_length}
 use Rattle.motion.specs.Refusals.{good}
-use Rattle.motion.specs.Systems.{Made, step_by, back_by}
-use Rattle.motion.specs.declared.refusal.Refusal.{Refusal}
-use Rattle.motion.specs.declared.refusal.Refusal.TheVariants.{Bodies}
+use Rattle.motion.specs.Systems.{step_by, back_by}
 use Rattle.motion.specs.declared.system.System.{System}
 use Rattle.motion.proofs.BodyWords.{own_part, other_part}
 use Rattle.motion.proofs.Kicks.{held_within}
-use Rattle.motion.proofs.Masses.{mass_beyond}
 use Rattle.calls.specs.Checkpoints.{checkpoint_length, checkpoints_length, kept_in, machine_of}
 use Rattle.calls.specs.Machine.{provided, rules_of}
-use Rattle.calls.specs.Opening.{verdict, MassesRead, SystemRead, BodyWritten, BodiesWritten, Opened}
-use Rattle.calls.specs.SystemBytes.{body_at, count_in, softening_in, mass_in, position_in, momentum_in, state_in, rules_in, body_told, bodies_told}
+use Rattle.calls.specs.Opening.{MassesRead, SystemRead, BodyWritten, BodiesWritten, Opened}
+use Rattle.calls.specs.SystemBytes.{body_at, count_in, position_in, momentum_in, state_in, rules_in, body_told, bodies_told}
 use Rattle.calls.specs.declared.player.Player.{Player}
 use Rattle.calls.proofs.Kept.{room_for}
 
@@ -47,10 +44,6 @@ masses_more bytes b masses mass there room value read = record {
   ];
   room = room;
 }
-
--- no body is written yet
-pub bodies_none : (bytes words : List ℕ) → BodiesWritten bytes 0 words words
-bodies_none bytes words = record { positions = λ b h. absurd (omega arith); momenta = λ b h. absurd (omega arith); behind = refl }
 
 -- body b is written to its part, by the bytes from `at` to `end`
 module _ (bytes : List ℕ) (b at end s : ℕ) (before words ys : List ℕ) (at-is : at ≡ body_at b) (end_is : end ≡ at + 50) (s-is : s ≡ 6)
@@ -82,30 +75,6 @@ module _ (bytes : List ℕ) (b at end s : ℕ) (before words ys : List ℕ) (at-
     where
       six_more : 6 * (b + 1) ≡ 6 * b + 6
       six_more = omega arith
-
--- the mass of each body is that in the bytes
-mass_same : (bytes : List ℕ) (masses : List Mass) (n : ℕ) → n ≡ count_in bytes → MassesRead bytes n masses → (b : ℕ) →
-    get_or (map (λ m. m.value) (take n masses)) b 0 ≡ mass_in bytes b
-mass_same bytes masses n count read b = elim (leb_tells (suc b) n) [
-  | inl t ↦ ap (λ l. get_or l b 0) (sym (take-map (λ m. m.value) n masses)) ∙ get_or-take n (map (λ m. m.value) masses) b 0 t.1 ∙ read.values b t.1
-      ∙ sym (ap (λ c. cond c (number_at 2 bytes (body_at b)) 0) (ap (ltb b) (sym count) ∙ t.0))
-  | inr t ↦ mass_beyond masses n b (omega arith) ∙ sym (ap (λ c. cond c (number_at 2 bytes (body_at b)) 0) (ap (ltb b) (sym count) ∙ t.0))
-]
-
--- a system of these masses is taken, and is that in the bytes
-pub system_taken : (bytes : List ℕ) (n softening : ℕ) (masses slice : List Mass) → n ≡ count_in bytes → 1 ≤ n → n ≤ 64 → softening ≡ softening_in bytes →
-    MassesRead bytes n masses → slice ≡ take n masses → length slice ≡ n → (r : Result System Refusal) →
-    MatchResult r (Made softening slice) (λ e. (e ≡ Bodies) × ((length slice ≡ 0) ⊎ (64 < length slice))) → (verdict r ≡ good tt) × IfOk r (SystemRead bytes)
-system_taken bytes n softening masses slice count least most soft read same long (Err e) (refusal, why) = absurd (elim why [ inl h ↦ omega arith | inr h ↦ omega arith ])
-system_taken bytes n softening masses slice count least most soft read same long (Ok system) made = (
-  refl,
-  record {
-    count = made.count_is ∙ long ∙ count;
-    softening = made.softening_is ∙ soft;
-    masses = λ b. ap (λ l. get_or (map (λ m. m.value) l) b 0) (made.masses_are ∙ same) ∙ mass_same bytes masses n count read b;
-    room = subst (λ k. body_at k ≤ length bytes) count read.room;
-  },
-)
 
 -- a player's system that was read moves by the rules in the bytes
 pub rules_same : (bytes : List ℕ) (system : System) → SystemRead bytes system → rules_of system ≡ rules_in bytes

@@ -1,5 +1,5 @@
 -- A whole run: what the opening and the calls leave is the machine at the end of the trace in the bytes.
-use Rattle.std.proofs.Common.{◌≡◌, ℕ, List, [], ◌++◌, drop, replicate, Some, None, codes, Option, sym, refl, ap, ◌∙◌, subst, append-nil}
+use Rattle.std.proofs.Common.{◌≡◌, ℕ, List, ◌++◌, drop, replicate, Some, None, codes, Option, sym, refl, ap, ◌∙◌, subst, append-nil}
 use Rattle.std.proofs.lemmas.List.{drop_at, length-replicate}
 use Rattle.motion.specs.Memory.{state_of}
 use Rattle.motion.specs.Refusals.{Told, good, refused, number_of, place_of, refusal_line}
@@ -37,11 +37,7 @@ pub lines_some : (refusal : Refusal) (text whole now : List ℕ) → whole ≡ t
 unfolding lines
 lines_some refusal text whole now e joined = joined ∙ sym e
 
--- a refused opening is told as a whole
-pub refused_told : (bytes text : List ℕ) (refusal : Refusal) (verdict : Told (Unit {0})) → refused (number_of refusal) (place_of refusal) ≡ verdict → text ≡ [] →
-    lines (trace_in bytes verdict) ≡ text ++ lines (rest_of (Some refusal))
-refused_told bytes text refusal verdict e empty = ap (λ v. lines (trace_in bytes v)) (sym e) ∙ ap (λ l. l ++ lines (rest_of (Some refusal))) (sym empty)
-
+-- a refused opening tells how it ended
 pub refused_ending : (bytes : List ℕ) (refusal : Refusal) (verdict : Told (Unit {0})) → refused (number_of refusal) (place_of refusal) ≡ verdict →
     end_told (Some refusal) ≡ ending (trace_in bytes verdict)
 unfolding ending
@@ -68,10 +64,6 @@ module _ (bytes : List ℕ) (player after : Player) (state opened_state state_af
   -- the machine at the end
   ends : last (machine_in bytes) whole ≡ machine_of after state_after checkpoints_after
   ends = told_in_bytes.last_so_far ∙ last_rest _ refusal
-
-  pub played_lines : lines (trace_in bytes (good tt)) ≡ text ++ lines (rest_of refusal)
-  unfolding whole
-  played_lines = told_in_bytes.text_so_far
 
   pub played_ending : end_told refusal ≡ ending (trace_in bytes (good tt))
   unfolding whole

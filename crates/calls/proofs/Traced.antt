@@ -1,5 +1,5 @@
 -- Rows and traces, one call at a time.
-use Rattle.std.proofs.Common.{◌≡◌, ℕ, zero, suc, ◌+◌, ◌<◌, ◌≤◌, cond, List, [], ◌++◌, length, drop, codes, sym, refl, ap, ◌∙◌, subst, append_assoc, le-leb}
+use Rattle.std.proofs.Common.{◌≡◌, ℕ, zero, suc, ◌+◌, ◌<◌, ◌≤◌, cond, List, ◌++◌, length, drop, codes, sym, refl, ap, ◌∙◌, subst, append_assoc, le-leb}
 use borrow.Author.Tests.{lt-leb}
 use Rattle.motion.specs.Memory.{state_length, work_length}
 use Rattle.motion.specs.Refusals.{Told, good, refused}
@@ -51,10 +51,6 @@ module _ (rules : Rules) (m : Machine) (bytes : List ℕ) (k at : ℕ) where
         ap (trace rules m k) (row_on (good call) e)
         ∙ ap (λ t. follow t (obey rules m k call).after (λ n. trace rules n (k + 1) (row_from bytes most (k + 1) (at + size_of call)))) said
         ∙ ap (λ n. answered answer n (trace rules n (k + 1) (row_from bytes most (k + 1) (at + size_of call)))) (sym then)
-
--- nothing is told yet
-pub told_none : (whole : Trace) (m : Machine) → SoFar whole m [] m whole
-told_none whole m = record { text_so_far = refl; last_so_far = refl; ending_so_far = refl }
 
 module _ {whole : Trace} {opening : Machine} {text : List ℕ} {m : Machine} {rest : Trace} (so_far : SoFar whole opening text m rest) where
   -- the rest by another name

@@ -1,7 +1,6 @@
 -- The state is written, and the checkpoints are cleared.
-use Rattle.std.proofs.Common.{◌-◌, ◌*◌, ◌≤◌, ◌++◌, length, drop, replicate, refl, ap, ◌∙◌, arith, rules}
+use Rattle.std.proofs.Common.{◌*◌, ◌≤◌, ◌++◌, length, drop, replicate, refl, ap, ◌∙◌, arith, rules}
 use Rattle.std.proofs.lemmas.List.{length-take-le}
-use Rattle.calls.specs.SystemBytes.{room_told}
 use Rattle.calls.proofs.Opened.{opened}
 use Rattle.calls.proofs.opening.set_up.Goals as goal
 

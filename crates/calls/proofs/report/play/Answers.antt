@@ -1,15 +1,12 @@
 -- The opening and the calls together are the trace in the bytes.
-use Rattle.std.proofs.Common.{drop, IfOk, string_bytes, sym, refl, ap, ◌∙◌, subst}
+use Rattle.std.proofs.Common.{IfOk, string_bytes, ap, ◌∙◌, subst}
 use Rattle.std.proofs.lemmas.Result.{IfOk-weaker}
-use Rattle.motion.specs.Memory.{state_length}
 use Rattle.calls.specs.Calls.{row_in}
-use Rattle.calls.specs.Checkpoints.{checkpoints_length, machine_of}
+use Rattle.calls.specs.Checkpoints.{machine_of}
 use Rattle.calls.specs.Machine.{rules_of}
 use Rattle.calls.specs.Reports.{RowTold, Left, trace_in}
-use Rattle.calls.specs.SystemBytes.{count_in}
-use Rattle.calls.specs.Trace.{lines, ending, trace}
-use Rattle.calls.proofs.Played.{refused_told, refused_ending, played_lines, played_ending, played, opened_behind}
-use Rattle.calls.proofs.Traced.{behind_then}
+use Rattle.calls.specs.Trace.{ending, trace}
+use Rattle.calls.proofs.Played.{refused_ending, played_ending, played}
 use Rattle.calls.proofs.report.play.Goals as goal
 
 pub returns-in-Err-clause-refusal : goal.returns-in-Err-clause-refusal

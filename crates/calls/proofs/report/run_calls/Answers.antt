@@ -1,6 +1,6 @@
 -- The text is that of the calls, with a line for the refusal behind it if there is one.
-use Rattle.std.proofs.Common.{◌++◌, string_bytes, sym, refl, ap, ◌∙◌}
-use Rattle.calls.specs.Reports.{end_told, rest_of}
+use Rattle.std.proofs.Common.{◌++◌, string_bytes, ap, ◌∙◌}
+use Rattle.calls.specs.Reports.{rest_of}
 use Rattle.calls.specs.Trace.{lines}
 use Rattle.calls.proofs.Played.{lines_none, lines_some}
 use Rattle.calls.proofs.report.run_calls.Goals as goal

@@ -1,5 +1,5 @@
 -- What stands in front of the part from `at` on is the call there.
-use Rattle.std.proofs.Common.{◌≡◌, ℕ, ◌+◌, ◌<◌, ◌≤◌, ◌⊎◌, List, [], length, get_or, drop, slice_range, Bor, Some, None, MatchOption, Option, unwrap_or, refl, ap, ◌∙◌, inl, inr, arith, rules}
+use Rattle.std.proofs.Common.{◌≡◌, ℕ, ◌+◌, ◌<◌, ◌≤◌, List, [], length, get_or, drop, slice_range, Bor, Some, None, MatchOption, Option, unwrap_or, refl, ap, ◌∙◌, arith, rules}
 use Rattle.std.proofs.lemmas.List.{take_rest}
 use Rattle.words.specs.Bytes.{number_at, bytes_of}
 use Rattle.calls.specs.declared.call.Call.TheVariants.{Forward, Back, GoTo, Read}

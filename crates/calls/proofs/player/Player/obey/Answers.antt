@@ -1,9 +1,9 @@
 -- Each kind of call does what the machine does.
-use Rattle.std.proofs.Common.{◌≡◌, ◌*◌, ◌≤◌, length, pos, ◌+ℤ◌, ◌-ℤ◌, neg_ℤ, sym, refl, ap, ◌∙◌, subst, arith, w64, SFits, to_z, of_z, rules}
+use Rattle.std.proofs.Common.{◌≡◌, ◌*◌, ◌≤◌, length, pos, ◌+ℤ◌, ◌-ℤ◌, neg_ℤ, sym, refl, ap, subst, arith, w64, SFits, to_z, of_z, rules}
 use Rattle.std.proofs.lemmas.Int.{ints}
 use Rattle.motion.specs.declared.refusal.Refusal.TheVariants.{Time, Checkpoint}
 use Rattle.calls.specs.Checkpoints.{checkpoints_length, machine_of, kept_in}
-use Rattle.calls.specs.Machine.{going, obey, rules_of}
+use Rattle.calls.specs.Machine.{obey, rules_of}
 use Rattle.calls.specs.Outcomes.{checkpoints_after}
 use Rattle.calls.proofs.Moved.{Promised, by_steps, to_checkpoint, marked}
 use Rattle.calls.proofs.player.Player.obey.Goals as goal
