@@ -214,18 +214,11 @@ module _ (xs more : List ℕ) where
       let room = long_enough (bytes_of_call call) in
       whole_call (joined (bytes_of_call call)) k (length xs) (omega arith) call (found call fits) room
 
--- what is promised where a slice with a call's bytes was appended, or nothing
-pub record Encoded (call : Call) (result : Result (Unit {0}) AllocError) (before after : List ℕ) : Type 0 where
-  pub items : after ≡ cond (is_ok result) (before ++ bytes_of_call call) before
-  pub undone : IfOk result (λ _. (k : ℕ) (more : List ℕ) → call_at (after ++ more) k (length before) ≡ good call)
-
+-- where a slice with a call's bytes was appended, they are read as the call
 pub encoded : (call other : Call) (result : Result (Unit {0}) AllocError) (before after slice : List ℕ) → call ≡ other → FitsBytes other → slice ≡ bytes_of_call other →
-    after ≡ cond (is_ok result) (before ++ slice) before → Encoded call result before after
+    after ≡ cond (is_ok result) (before ++ slice) before → IfOk result (λ _. (k : ℕ) (more : List ℕ) → call_at (after ++ more) k (length before) ≡ good call)
 encoded call other (Ok x) before after slice same fits is e =
     let now = e ∙ ap (λ l. before ++ l) (is ∙ sym (ap bytes_of_call same)) in
-    record {
-      items = now;
-      undone = λ k more. ap (λ l. call_at (l ++ more) k (length before)) now
-          ∙ subst (λ c. call_at ((before ++ bytes_of_call c) ++ more) k (length before) ≡ good c) (sym same) (written_call before more other fits k);
-    }
-encoded call other (Err x) before after slice same fits is e = record { items = e; undone = tt }
+    λ k more. ap (λ l. call_at (l ++ more) k (length before)) now
+    ∙ subst (λ c. call_at ((before ++ bytes_of_call c) ++ more) k (length before) ≡ good c) (sym same) (written_call before more other fits k)
+encoded call other (Err x) before after slice same fits is e = tt

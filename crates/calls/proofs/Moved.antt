@@ -16,12 +16,11 @@ use Rattle.calls.specs.declared.call.Call.TheVariants.{Mark}
 use Rattle.calls.specs.declared.player.Player.{Player}
 use Rattle.calls.proofs.Kept.{kept_read, kept_behind}
 
--- what is promised of a call for which there is room
-pub record Promised (k : ℕ) (call : Call) (result : Result Answer Refusal) (player after : Player)
-    (state state_after checkpoints checkpoints_left work work_after : List ℕ) : Type 0 where
-  pub answer : told result ≡ (obey (rules_of player.system) (machine_of player state checkpoints) k call).answer
-  pub left : MatchResult result (λ _. Obeyed k call player after state state_after checkpoints checkpoints_left work work_after)
-      (λ _. Untouched player after state state_after checkpoints checkpoints_left work work_after)
+-- what a call for which there is room is to leave
+abbrev pub Promised : ℕ → Call → Result Answer Refusal → Player → Player → List ℕ → List ℕ → List ℕ → List ℕ → List ℕ → List ℕ → Type 0
+Promised k call result player after state state_after checkpoints checkpoints_left work work_after =
+    MatchResult result (λ _. Obeyed k call player after state state_after checkpoints checkpoints_left work work_after)
+    (λ _. Untouched player after state state_after checkpoints checkpoints_left work work_after)
 
 -- a time in range has its test, and one out of range too
 in_range_yes : (v : ℤ) → SFits w64 v → in_range v ≡ true
@@ -44,26 +43,20 @@ module _ (k : ℕ) (call : Call) (player after : Player) (state state_after chec
       Promised k call result player after state state_after checkpoints checkpoints work work_after
   moved result to t e gone there is same =
       let by : to -ℤ player.time ≡ t = omega (arith, ints) in
-      record {
-        answer = ap told e ∙ ap (λ u. good (Time u)) there ∙ sym (ap (λ r. r.answer) is);
-        left = subst (λ r. MatchResult r (λ _. Obeyed k call player after state state_after checkpoints checkpoints work work_after) (λ _. Untouched player after state state_after checkpoints checkpoints work work_after)) (sym e)
-            (record {
-              machine = gone.machine checkpoints ∙ ap (λ u. moved_by (rules_of player.system) u machine) by ∙ sym (ap (λ r. r.after) is);
-              checkpoints_are = sym same;
-              checkpoints_behind = refl;
-              outside = gone.outside;
-            });
-      }
+      subst (λ r. Promised k call r player after state state_after checkpoints checkpoints work work_after) (sym e)
+      (record {
+        machine = gone.machine checkpoints ∙ ap (λ u. moved_by (rules_of player.system) u machine) by ∙ sym (ap (λ r. r.after) is);
+        checkpoints_are = sym same;
+        checkpoints_behind = refl;
+        outside = gone.outside;
+      })
 
   -- a call that is refused
   stayed : (result : Result Answer Refusal) (e : Refusal) → (result ≡ Err e) × (after ≡ player) × (state_after ≡ state) × (work_after ≡ work) →
-      obey (rules_of player.system) machine k call ≡ refuse machine (number_of e) (place_of e) →
       Promised k call result player after state state_after checkpoints checkpoints work work_after
-  stayed result e stays is = record {
-    answer = ap told stays.0 ∙ sym (ap (λ r. r.answer) is);
-    left = subst (λ r. MatchResult r (λ _. Obeyed k call player after state state_after checkpoints checkpoints work work_after) (λ _. Untouched player after state state_after checkpoints checkpoints work work_after)) (sym stays.0)
-        (record { player_same = stays.1; state_same = stays.2; checkpoints_same = refl; work_same = stays.3 });
-  }
+  stayed result e stays =
+      subst (λ r. Promised k call r player after state state_after checkpoints checkpoints work work_after) (sym stays.0)
+      (record { player_same = stays.1; state_same = stays.2; checkpoints_same = refl; work_same = stays.3 })
 
   -- by steps, if the time stays in range
   pub by_steps : (result : Result Answer Refusal) (o : Option ℤ) (v t : ℤ) (e : Refusal) → v ≡ player.time +ℤ t → SomeIff o (SFits w64 v) v →
@@ -72,8 +65,7 @@ module _ (k : ℕ) (call : Call) (player after : Player) (state state_after chec
       ≡ cond (in_range (player.time +ℤ t)) (moving (rules_of player.system) t machine) (refuse machine (number_of e) (place_of e)) →
       checkpoints_after player.system.count player.time state checkpoints call ≡ checkpoints →
       Promised k call result player after state state_after checkpoints checkpoints work work_after
-  by_steps result None v t e way checked arrived is same =
-      stayed result e arrived (is ∙ ap (λ b. cond b (moving (rules_of player.system) t machine) (refuse machine (number_of e) (place_of e))) (sym (ap in_range way) ∙ in_range_no v checked))
+  by_steps result None v t e way checked arrived is same = stayed result e arrived
   by_steps result (Some to) v t e way checked arrived is same =
       moved result to t arrived.0 arrived.1 (checked.1 ∙ way)
       (is ∙ ap (λ b. cond b (moving (rules_of player.system) t machine) (refuse machine (number_of e) (place_of e))) (sym (ap in_range way) ∙ in_range_yes v checked.0)) same
@@ -85,13 +77,11 @@ module _ (k : ℕ) (call : Call) (player after : Player) (state state_after chec
   -- to what is kept, if anything is
   pub to_checkpoint : (result : Result Answer Refusal) (o : Option ℤ) (kept : Option Checkpoint) (e : Refusal) →
       MatchOption o (kept ≡ None) (λ t. HoldsTime t kept) → Arrived o e result player after state state_after work work_after →
-      (number_of e ≡ 5) × (place_of e ≡ k) →
       obey (rules_of player.system) machine k call ≡ going (rules_of player.system) machine k kept →
       checkpoints_after player.system.count player.time state checkpoints call ≡ checkpoints →
       Promised k call result player after state state_after checkpoints checkpoints work work_after
-  to_checkpoint result None kept e none arrived fault is same =
-      stayed result e arrived (is ∙ ap (going (rules_of player.system) machine k) none ∙ (λ i. refuse machine (sym fault.0 i) (sym fault.1 i)))
-  to_checkpoint result (Some to) kept e holds arrived fault is same =
+  to_checkpoint result None kept e none arrived is same = stayed result e arrived
+  to_checkpoint result (Some to) kept e holds arrived is same =
       let way : to ≡ player.time +ℤ (to -ℤ player.time) = omega (arith, ints) in
       moved result to (to -ℤ player.time) arrived.0 arrived.1 way (is ∙ to_kept machine kept to holds) same
 
@@ -113,16 +103,13 @@ module _ (k c : ℕ) (player : Player) (state checkpoints checkpoints_left work 
       MatchResult result (λ _. checkpoints_left ≡ kept_words player.system.count c player.time state checkpoints) (λ _. checkpoints_left ≡ checkpoints) →
       Promised k (Mark c) result player player state state checkpoints checkpoints_left work work
   unfolding by_test
-  marked (Err fault) e left = record { answer = e; left = record { player_same = refl; state_same = refl; checkpoints_same = left; work_same = refl } }
-  marked (Ok answer) e left = record {
-    answer = e;
-    left = elim (leb_tells (suc c) 16) [
-      | inl t ↦ record {
-        machine = now_kept t.1 left ∙ sym (ap (λ b. (by_test b).after) t.0);
-        checkpoints_are = left;
-        checkpoints_behind = ap (drop (checkpoints_length player.system.count)) left ∙ kept_behind player.system.count c player.time state checkpoints t.1 front room;
-        outside = record { system = refl; state_behind = refl; work_behind = refl };
-      }
-      | inr t ↦ let no : good answer ≡ refused 5 k = e ∙ ap (λ b. (by_test b).answer) t.0 in let z : ◌≡◌ {A = ℕ} 0 1 = cc in absurd (omega arith)
-    ];
-  }
+  marked (Err fault) e left = record { player_same = refl; state_same = refl; checkpoints_same = left; work_same = refl }
+  marked (Ok answer) e left = elim (leb_tells (suc c) 16) [
+    | inl t ↦ record {
+      machine = now_kept t.1 left ∙ sym (ap (λ b. (by_test b).after) t.0);
+      checkpoints_are = left;
+      checkpoints_behind = ap (drop (checkpoints_length player.system.count)) left ∙ kept_behind player.system.count c player.time state checkpoints t.1 front room;
+      outside = record { system = refl; state_behind = refl; work_behind = refl };
+    }
+    | inr t ↦ let no : good answer ≡ refused 5 k = e ∙ ap (λ b. (by_test b).answer) t.0 in let z : ◌≡◌ {A = ℕ} 0 1 = cc in absurd (omega arith)
+  ]
