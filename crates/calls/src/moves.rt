@@ -30,8 +30,7 @@ impl Player {
         requires work { work_length self.old.system.count ≤ length work.old }
         ensures { MatchResult result (λ _. Gone to self.old self.new state.old state.new work.old work.new) (λ _. ⊥) }
     {
-        self.system
-            .turn(turn_between(self.time, to), state, work)?;
+        self.system.turn(turn_between(self.time, to), state, work)?;
         self.time = to;
         Ok(())
     }

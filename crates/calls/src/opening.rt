@@ -185,8 +185,8 @@ fn body_words(bytes: &[u8]) -> [u64; 6]
     requires { length bytes.now ≡ 50 }
     ensures { BodyWritten bytes.now result }
 {
-    let [x, y, z, along_x, along_y, along_z]: [u64; 6] =
-        array::from_fn(|word| read_number(bytes, 2 + 8 * word, 8));
+    let numbers: [u64; 6] = array::from_fn(|i| read_number(bytes, 2 + 8 * i, 8));
+    let [x, y, z, along_x, along_y, along_z] = numbers;
     [x, along_x, y, along_y, z, along_z]
 }
 
