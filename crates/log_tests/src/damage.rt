@@ -42,16 +42,15 @@ fn changed_times_and_sums_are_told(rt: HostRuntime) -> Result<(), Fail> {
 
 /// Tells what is right of a log that is cut off.
 fn cut_told(stops: &[Stop], length: usize) -> Result<Accepted, Refusal> {
-    for (calls, stop) in stops.iter().enumerate() {
-        if stop.end == length {
-            return Ok(Accepted {
-                calls,
-                time: stop.time,
-                refusal: None,
-            });
-        }
-    }
-    Err(Refusal::Length(length))
+    let mut ends = stops.iter().enumerate();
+    let (calls, stop) = ends
+        .find(|(_, stop)| stop.end == length)
+        .ok_or(Refusal::Length(length))?;
+    Ok(Accepted {
+        calls,
+        time: stop.time,
+        refusal: None,
+    })
 }
 
 #[test]

@@ -2,6 +2,8 @@
 use calls::Call;
 use logs::{Accepted, check_log, write_log};
 use motion::Refusal;
+use rand_core::{Rng, SeedableRng};
+use rand_xoshiro::SplitMix64;
 use std::alloc::{AllocError, Global};
 use std::test::Fail;
 
@@ -14,6 +16,13 @@ pub struct Stop {
     pub time: i64,
 }
 
+/// A time that is kept under a number.
+#[derive(Clone, Copy)]
+struct Kept {
+    mark: u8,
+    time: i64,
+}
+
 /// A system with calls behind it, all of which are answered, and what is known of its log.
 #[derive(Drop)]
 pub struct Lever {
@@ -21,8 +30,8 @@ pub struct Lever {
     pub bodies: u8,
     /// The system's end, and then that of each call's record.
     pub stops: Vec<Stop>,
-    /// The numbers under which a time is kept, and the times; the last of a number holds.
-    kept: Vec<(u8, i64)>,
+    /// The times that were kept; the last of a number holds.
+    kept: Vec<Kept>,
 }
 
 impl Lever {
@@ -50,13 +59,10 @@ impl Lever {
 
     /// Gives the time that is kept under a number.
     fn kept_time(&self, mark: u8) -> i64 {
-        let mut time = 0;
-        for kept in self.kept.as_slice() {
-            if kept.0 == mark {
-                time = kept.1;
-            }
-        }
-        time
+        let mut newest_first = self.kept.iter().rev();
+        newest_first
+            .find(|kept| kept.mark == mark)
+            .map_or(0, |kept| kept.time)
     }
 
     /// Adds a call, and what is known of its record.
@@ -66,7 +72,7 @@ impl Lever {
             Call::Forward(steps) => time.saturating_add(i64::from(steps)),
             Call::Back(steps) => time.saturating_sub(i64::from(steps)),
             Call::Mark(mark) => {
-                self.kept.push((mark, time))?;
+                self.kept.push(Kept { mark, time })?;
                 time
             }
             Call::GoTo(mark) => self.kept_time(mark),
@@ -78,33 +84,25 @@ impl Lever {
     }
 
     /// Gives a random call that will be answered; it keeps no mark above 14.
-    fn random_call(&self, seed: &mut u64) -> Call {
-        let steps = (draw(seed) % 5) as u32;
-        let mark = (draw(seed) % 15) as u8;
-        let body = (draw(seed) % 256) as u8;
-        let pick = (draw(seed) as usize).checked_rem(self.kept.len());
-        match draw(seed) % 5 {
+    fn random_call(&self, random: &mut SplitMix64) -> Call {
+        let steps = (random.next_u64() % 5) as u32;
+        let mark = (random.next_u64() % 15) as u8;
+        let body = (random.next_u64() % 256) as u8;
+        let pick = (random.next_u64() as usize).checked_rem(self.kept.len());
+        match random.next_u64() % 5 {
             0 => Call::Forward(steps),
             1 => Call::Back(steps),
             2 => Call::Mark(mark),
             3 => match self.kept.as_slice().get(pick.unwrap_or(0)) {
-                Some(kept) => Call::GoTo(kept.0),
+                Some(kept) => Call::GoTo(kept.mark),
                 None => Call::Mark(mark),
             },
             _ => Call::Read {
                 body: body.checked_rem(self.bodies).unwrap_or(0),
-                axis: (draw(seed) % 3) as u8,
+                axis: (random.next_u64() % 3) as u8,
             },
         }
     }
-}
-
-/// Gives the next random word (splitmix64).
-fn draw(seed: &mut u64) -> u64 {
-    *seed = seed.wrapping_add(0x9e37_79b9_7f4a_7c15);
-    let a = (*seed ^ (*seed >> 30)).wrapping_mul(0xbf58_476d_1ce4_e5b9);
-    let b = (a ^ (a >> 27)).wrapping_mul(0x94d0_49bb_1331_11eb);
-    b ^ (b >> 31)
 }
 
 /// Appends words.
@@ -132,24 +130,25 @@ pub fn worked_pair(heap: Global) -> Result<Lever, AllocError> {
 }
 
 /// A random system of 1 to 8 bodies, with twelve random calls that are answered.
-pub fn random_lever(heap: Global, mut seed: u64) -> Result<Lever, AllocError> {
-    let bodies = (1 + draw(&mut seed) % 8) as u8;
+pub fn random_lever(heap: Global, seed: u64) -> Result<Lever, AllocError> {
+    let mut random = SplitMix64::seed_from_u64(seed);
+    let bodies = (1 + random.next_u64() % 8) as u8;
     let mut bytes = Vec::new(heap);
     bytes.push(bodies)?;
-    put(&mut bytes, &[(1 << 20) + draw(&mut seed) % (1 << 39)])?;
+    put(&mut bytes, &[(1 << 20) + random.next_u64() % (1 << 39)])?;
     for _ in 0..bodies {
-        let mass = (1 + draw(&mut seed) % 1023) as u16;
+        let mass = (1 + random.next_u64() % 1023) as u16;
         bytes.extend_from_slice(&mass.to_le_bytes())?;
         for _ in 0..3 {
-            put(&mut bytes, &[draw(&mut seed)])?;
+            put(&mut bytes, &[random.next_u64()])?;
         }
         for _ in 0..3 {
-            put(&mut bytes, &[draw(&mut seed) >> 16])?;
+            put(&mut bytes, &[random.next_u64() >> 16])?;
         }
     }
     let mut lever = Lever::new(heap, bodies, bytes)?;
     for _ in 0..12 {
-        let call = lever.random_call(&mut seed);
+        let call = lever.random_call(&mut random);
         lever.add(call)?;
     }
     Ok(lever)

@@ -14,7 +14,7 @@ use Rattle.calls.specs.declared.call.Call.TheVariants.{Forward, Back, Mark, GoTo
 use Rattle.calls.proofs.Coded.{FitsBytes, by_kind, written_call}
 use Rattle.logs.specs.Checking.{Acceptance, log_told}
 use Rattle.logs.specs.Logs.{stamp, time_word, state_sum, Writable, End, whole, unknown, end_bytes, Ends, behind, log_of, Answered, machine_after, stamped}
-use Rattle.logs.proofs.Found.{told_over, told_call, told_answered, told_refused}
+use Rattle.logs.proofs.Found.{told_over, told_call, told_answered, told_refused, told_by_stamp}
 use Rattle.logs.proofs.Stamps.{same, stamp_passes, passes_stamp}
 
 fits : (call : Call) → Writable call → FitsBytes call
@@ -73,9 +73,7 @@ module _ (rules : Rules) (bytes : List ℕ) (m : Machine) (k at : ℕ) (inside :
       told_stamp most b test =
           let all = sized in
           told_answered rules bytes k at m (omega arith) call (at + size_of call) there_call refl most answer (obey rules m k call).after said refl
-          ∙ ap (λ t. cond t (refused 1 (length bytes)) (cond (same rules.count bytes (obey rules m k call).after (at + size_of call))
-          (log_told rules bytes most (k + 1) (at + size_of call + 16) (obey rules m k call).after) (refused 10 k))) (le-ltb (length bytes) (at + size_of call + 16) room)
-          ∙ ap (λ t. cond t (log_told rules bytes most (k + 1) (at + size_of call + 16) (obey rules m k call).after) (refused 10 k)) test
+          ∙ told_by_stamp rules bytes k (at + size_of call) (obey rules m k call).after b room test _
 
       -- they are its stamp
       told_right : (most : ℕ) → written ≡ stamp rules.count (obey rules m k call).after →

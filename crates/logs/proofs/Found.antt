@@ -1,5 +1,5 @@
 -- One call of a log: what the inner functions find is what is told of the log from there on.
-use Rattle.std.proofs.Common.{◌≡◌, ℕ, zero, suc, ◌+◌, ◌-◌, ◌<◌, ◌≤◌, cond, List, length, Ok, Err, Result, sym, refl, ap, ◌∙◌, arith, le-leb}
+use Rattle.std.proofs.Common.{◌≡◌, ℕ, zero, suc, ◌+◌, ◌-◌, ◌<◌, ◌≤◌, Bool, cond, List, length, Ok, Err, Result, ControlFlow, Continue, Break, sym, refl, ap, ◌∙◌, arith, le-leb, le-ltb}
 use borrow.Author.Tests.{lt-leb}
 use Rattle.motion.specs.Refusals.{Told, good, refused}
 use Rattle.motion.specs.declared.refusal.Refusal.{Refusal}
@@ -11,9 +11,8 @@ use Rattle.calls.specs.declared.answer.Answer.{Answer}
 use Rattle.calls.specs.declared.call.Call.{Call}
 use Rattle.calls.specs.declared.player.Player.{Player}
 use Rattle.logs.specs.Checking.{Acceptance, over_told, ended_told, stamp_told, answer_told, call_told, log_told}
+use Rattle.logs.proofs.Stamps.{same}
 use Rattle.logs.specs.Checks.{ends_in, EndsAs, Compared, Found}
-use Rattle.logs.specs.declared.checking.Next.{Next}
-use Rattle.logs.specs.declared.checking.Next.TheVariants.{On, Ended}
 
 module _ (rules : Rules) (bytes : List ℕ) (k at : ℕ) (m : Machine) where
   -- behind the last byte a log is over
@@ -48,31 +47,38 @@ module _ (rules : Rules) (bytes : List ℕ) (k at : ℕ) (m : Machine) where
         ∙ ap (λ t. answer_told rules bytes k (at + size_of call) m t (obey rules m k call).after (log_told rules bytes most (k + 1) (at + size_of call + 16) (obey rules m k call).after)) why
         ∙ ap (λ n. ended_told rules bytes k m n number place) (sym size)
 
+-- what is told of sixteen bytes that are there, by whether they are the stamp
+pub told_by_stamp : (rules : Rules) (bytes : List ℕ) (k at : ℕ) (m : Machine) (b : Bool) → at + 16 ≤ length bytes → same rules.count bytes m at ≡ b → (rest : Told Acceptance) →
+    stamp_told rules bytes k at m rest ≡ cond b rest (refused 10 k)
+told_by_stamp rules bytes k at m b enough test rest =
+    ap (λ t. cond t (refused 1 (length bytes)) (cond (same rules.count bytes m at) rest (refused 10 k))) (le-ltb (length bytes) (at + 16) enough)
+    ∙ ap (λ t. cond t rest (refused 10 k)) test
+
 -- a log that ends, or has a fault, where nothing was changed
-pub found_ended : (bytes : List ℕ) (k at : ℕ) (player after : Player) (state state_after checkpoints checkpoints_after : List ℕ) (refusal : Refusal) (told : Told Acceptance) (r : Result Next Refusal) →
+pub found_ended : (bytes : List ℕ) (k at : ℕ) (player after : Player) (state state_after checkpoints checkpoints_after : List ℕ) (refusal : Refusal) (told : Told Acceptance) (r : Result (ControlFlow Refusal ℕ) Refusal) →
     EndsAs told k (machine_of player state checkpoints) refusal r →
     ((most : ℕ) → log_told (rules_of player.system) bytes (suc most) k at (machine_of player state checkpoints) ≡ told) → after ≡ player →
     Found bytes k at player after state state_after checkpoints checkpoints_after r
 found_ended bytes k at player after state state_after checkpoints checkpoints_after refusal told (Err fault) ends is same = λ most. is most ∙ ends
-found_ended bytes k at player after state state_after checkpoints checkpoints_after refusal told (Ok (On to)) ends is same =
-    let e : On to ≡ Ended refusal = ends.0 in let z : ◌≡◌ {A = ℕ} 0 1 = cc in absurd (omega arith)
-found_ended bytes k at player after state state_after checkpoints checkpoints_after refusal told (Ok (Ended other)) ends is same =
-    let e : Ended other ≡ Ended refusal = ends.0 in
+found_ended bytes k at player after state state_after checkpoints checkpoints_after refusal told (Ok (Continue to)) ends is same =
+    let e : Continue to ≡ Break refusal = ends.0 in let z : ◌≡◌ {A = ℕ} 0 1 = cc in absurd (omega arith)
+found_ended bytes k at player after state state_after checkpoints checkpoints_after refusal told (Ok (Break other)) ends is same =
+    let e : Break other ≡ Break refusal = ends.0 in
     let f : refusal ≡ other = cc in
     (λ most. is most ∙ ends.1 ∙ ap (λ x. good (ends_in k (machine_of player state checkpoints) x)) f, same)
 
 -- a log that goes on behind a stamp, or has a fault in it
-pub found_stamp : (bytes : List ℕ) (k at end : ℕ) (player after : Player) (state state_after checkpoints checkpoints_after : List ℕ) (r : Result Next Refusal) → at < end → after.system ≡ player.system →
+pub found_stamp : (bytes : List ℕ) (k at end : ℕ) (player after : Player) (state state_after checkpoints checkpoints_after : List ℕ) (r : Result (ControlFlow Refusal ℕ) Refusal) → at < end → after.system ≡ player.system →
     Compared (rules_of player.system) bytes k end (machine_of after state_after checkpoints_after) r →
     ((most : ℕ) → log_told (rules_of player.system) bytes (suc most) k at (machine_of player state checkpoints)
     ≡ stamp_told (rules_of player.system) bytes k end (machine_of after state_after checkpoints_after)
     (log_told (rules_of player.system) bytes most (k + 1) (end + 16) (machine_of after state_after checkpoints_after))) →
     Found bytes k at player after state state_after checkpoints checkpoints_after r
 found_stamp bytes k at end player after state state_after checkpoints checkpoints_after (Err fault) further same compared is = λ most. is most ∙ compared _
-found_stamp bytes k at end player after state state_after checkpoints checkpoints_after (Ok (Ended other)) further same compared is =
-    let e : Ended other ≡ On (end + 16) = compared.0 in let z : ◌≡◌ {A = ℕ} 0 1 = cc in absurd (omega arith)
-found_stamp bytes k at end player after state state_after checkpoints checkpoints_after (Ok (On to)) further same compared is =
-    let e : On to ≡ On (end + 16) = compared.0 in
+found_stamp bytes k at end player after state state_after checkpoints checkpoints_after (Ok (Break other)) further same compared is =
+    let e : Break other ≡ Continue (end + 16) = compared.0 in let z : ◌≡◌ {A = ℕ} 0 1 = cc in absurd (omega arith)
+found_stamp bytes k at end player after state state_after checkpoints checkpoints_after (Ok (Continue to)) further same compared is =
+    let e : Continue to ≡ Continue (end + 16) = compared.0 in
     let f : end + 16 ≡ to = cc in
     record {
       told_on = λ most. is most ∙ compared.1 _ ∙ ap (λ n. log_told (rules_of player.system) bytes most (k + 1) n (machine_of after state_after checkpoints_after)) f;

@@ -2,9 +2,11 @@
 use Rattle.std.proofs.Common.{◌≡◌, ℕ, zero, suc, ◌+◌, ◌-◌, ◌*◌, ◌/◌, ◌%◌, ◌^◌, ◌<◌, ◌≤◌, Bool, true, false, cond, ◌&&◌, eqb, List, ◌++◌, length, get_or, take, drop, sym, ap, ◌∙◌, inl, inr, add_assoc, mod-lt, mod-eq_of_lt, div-le_self, arith, take-add, pow_pos, eq-eqb}
 use Rattle.std.proofs.lemmas.Nat.{or_lt, xor_lt}
 use Rattle.std.proofs.lemmas.List.{get_or-take, get_or-drop, get_or_append_left, get_or-append_right, drop-drop}
+use Rattle.std.specs.List.{between}
+use Rattle.std.proofs.lemmas.List.Edits.{get_or-between}
 use Rattle.std.proofs.lemmas.Bool.Decides.{eqb_tells}
 use Rattle.words.specs.Bytes.{number_at, bytes_of}
-use Rattle.words.proofs.InBytes.{number_of_bytes, bytes_of_number, length-bytes_of}
+use Rattle.words.proofs.InBytes.{number_moved, number_of_bytes, bytes_of_number, length-bytes_of}
 use Rattle.motion.specs.Systems.{WordsState}
 use Rattle.calls.specs.Machine.{Machine}
 use Rattle.logs.specs.Logs.{word_of, sum_below, state_sum, time_word, stamp}
@@ -31,6 +33,19 @@ module _ (n : ℕ) (bytes : List ℕ) (m : Machine) (at : ℕ) where
   -- the test of a checker
   abbrev pub same : Bool
   same = eqb (number_at 8 bytes at) (time_word m.time) && eqb (number_at 8 bytes (at + 8)) (state_sum n m.state)
+
+  -- the numbers that are read of the sixteen bytes there, and compared, are those of the test
+  pub same_read : (sixteen : List ℕ) (time sum now state : ℕ) → at + 16 ≤ length bytes → sixteen ≡ take 16 (between at (length bytes) bytes) →
+      time ≡ number_at 8 sixteen 0 → sum ≡ number_at 8 sixteen 8 → now ≡ time_word m.time → state ≡ state_sum n m.state → same ≡ (eqb time now && eqb sum state)
+  same_read sixteen time sum now state room is time_is sum_is now_is state_is =
+      let first = time_is ∙ number 0 at (omega arith) (omega arith) in
+      let second = sum_is ∙ number 8 (at + 8) (omega arith) (omega arith) in
+      λ i. eqb (sym first i) (sym now_is i) && eqb (sym second i) (sym state_is i)
+    where
+      number : (place to : ℕ) → place ≤ 8 → to ≡ at + place → number_at 8 sixteen place ≡ number_at 8 bytes to
+      number place to within there = number_moved 8 sixteen bytes place to
+          (λ j h. ap (λ l. get_or l (place + j) 0) is ∙ get_or-take 16 (between at (length bytes) bytes) (place + j) 0 (omega arith)
+          ∙ get_or-between bytes at (length bytes) (place + j) 0 (omega arith) ∙ ap (λ i. get_or bytes i 0) (omega arith))
 
   first_byte : (j : ℕ) → j < 8 → get_or (stamp n m) j 0 ≡ get_or (bytes_of 8 (time_word m.time)) j 0
   first_byte j h = let long = length-bytes_of 8 (time_word m.time) in

@@ -1,20 +1,19 @@
 //! Checking a log: its calls are made anew, and each time and check sum is compared.
-ghost use Rattle.std.specs.Prelude.{◌≡◌, ℕ, ◌+◌, ◌*◌, ◌<◌, ◌≤◌, ◌&&◌, List, length, Some, MatchResult, ◌==◌, ◌≢◌, slice_index, slice_set};
-ghost use Rattle.words.specs.Bytes.{number_at};
-ghost use Rattle.motion.specs.Memory.{state_of};
+ghost use Rattle.std.specs.Prelude.{◌≡◌, ℕ, ◌+◌, ◌*◌, ◌<◌, ◌≤◌, List, length, Some, MatchResult, ◌≢◌, slice_index, slice_set};
 ghost use Rattle.motion.specs.Refusals.{good, refused, number_of, place_of};
 ghost use Rattle.calls.specs.Checkpoints.{machine_of};
 ghost use Rattle.calls.specs.Machine.{Machine, Rules, rules_of};
 ghost use Rattle.calls.specs.Reports.{BehindSame, opening_told};
 ghost use Rattle.calls.specs.SystemBytes.{count_in, room_told};
 ghost use Rattle.logs.specs.Checking.{Acceptance, accepted_text, checked, ended_told, fault_told, log_in, log_told};
-ghost use Rattle.logs.specs.Logs.{FirstWrong, InStamp, Log, state_sum, time_word};
+ghost use Rattle.logs.specs.Logs.{FirstWrong, InStamp, Log};
 ghost use Rattle.logs.specs.Checks.{Compared, EndsAs, Found};
 
+use crate::stamp::Stamp;
 use calls::{Call, Player};
-use motion::{Refusal, check_sum};
+use motion::Refusal;
 use std::fmt;
-use words::number_in;
+use std::ops::ControlFlow;
 
 /// What is told of a log that is accepted.
 #[derive(Clone, Copy, PartialEq, Eq, Debug)]
@@ -31,30 +30,12 @@ impl fmt::Display for Accepted {
     ghost output = { λ accepted. Some (accepted_text accepted) };
 
     fn fmt<W: fmt::Write>(&self, f: &mut fmt::Formatter<W>) -> fmt::Result {
-        let calls = self.calls;
-        let time = self.time;
+        write!(f, "accepted {} calls time {}", self.calls, self.time)?;
         match self.refusal {
-            None => write!(f, "accepted {calls} calls time {time}"),
-            Some(refusal) => write!(f, "accepted {calls} calls time {time} ended by {refusal}"),
+            None => Ok(()),
+            Some(refusal) => write!(f, " ended by {refusal}"),
         }
     }
-}
-
-/// How a log goes on behind a call.
-#[derive(Clone, Copy)]
-enum Next {
-    /// The next call begins here.
-    On(usize),
-    /// The call was refused, and the log ends with it.
-    Ended(Refusal),
-}
-
-/// Gives the check sum of a player's state.
-pub(crate) fn state_sum(player: &Player, state: &[u64]) -> u64
-    requires { 6 * player.now.system.count ≤ length state.now }
-    ensures { result ≡ state_sum player.now.system.count (state_of player.now.system.count state.now) }
-{
-    check_sum(&state[0..6 * player.count()])
 }
 
 /// Checks a log: makes its calls anew, and accepts it if every time and every check sum is right. Otherwise tells the first
@@ -91,16 +72,15 @@ fn check_calls(
     ensures behind { BehindSame player.old.system.count state.old state.new checkpoints.old checkpoints.new work.old work.new }
 {
     let mut at = from;
-    for calls in 0..bytes.len() {
-        if at >= bytes.len() {
-            return Ok(accept(player, calls, None));
-        }
+    let mut calls = 0;
+    while at < bytes.len() {
         match check_call(player, bytes, calls, at, state, checkpoints, work)? {
-            Next::On(next) => at = next,
-            Next::Ended(refusal) => return Ok(accept(player, calls, Some(refusal))),
+            ControlFlow::Continue(next) => at = next,
+            ControlFlow::Break(refusal) => return Ok(accept(player, calls, Some(refusal))),
         }
+        calls += 1;
     }
-    Ok(accept(player, bytes.len(), None))
+    Ok(accept(player, calls, None))
 }
 
 /// Tells what is accepted, at the player's time.
@@ -114,7 +94,8 @@ fn accept(player: &Player, calls: usize, refusal: Option<Refusal>) -> Accepted
     }
 }
 
-/// Makes call `number`, whose bytes begin at `at`, and looks at what stands behind it.
+/// Makes call `number`, whose bytes begin at `at`, and looks at what stands behind it. Gives where the next call begins, or
+/// the refusal that the log ends in.
 fn check_call(
     player: &mut Player,
     bytes: &[u8],
@@ -123,7 +104,7 @@ fn check_call(
     state: &mut [u64],
     checkpoints: &mut [u64],
     work: &mut [u64],
-) -> Result<Next, Refusal>
+) -> Result<ControlFlow<Refusal, usize>, Refusal>
     requires at { at < length bytes.now }
     requires room { room_told player.old.system.count (length state.old) (length checkpoints.old) (length work.old) ≡ good tt }
     ensures found { Found bytes.now number at player.old player.new state.old state.new checkpoints.old checkpoints.new result }
@@ -141,7 +122,11 @@ fn check_call(
 }
 
 /// Looks at bytes that are no call: a kind that there is not may end a log.
-fn check_fault(bytes: &[u8], at: usize, refusal: Refusal) -> Result<Next, Refusal>
+fn check_fault(
+    bytes: &[u8],
+    at: usize,
+    refusal: Refusal,
+) -> Result<ControlFlow<Refusal, usize>, Refusal>
     requires { at < length bytes.now }
     ensures { (rules : Rules) (k : ℕ) (m : Machine) → EndsAs (fault_told rules bytes.now k at m (number_of refusal) (place_of refusal)) k m refusal result }
 {
@@ -152,13 +137,17 @@ fn check_fault(bytes: &[u8], at: usize, refusal: Refusal) -> Result<Next, Refusa
 }
 
 /// Looks whether the bytes end where a refused call does.
-fn check_end(bytes: &[u8], end: usize, refusal: Refusal) -> Result<Next, Refusal>
+fn check_end(
+    bytes: &[u8],
+    end: usize,
+    refusal: Refusal,
+) -> Result<ControlFlow<Refusal, usize>, Refusal>
     ensures { (rules : Rules) (k : ℕ) (m : Machine) → EndsAs (ended_told rules bytes.now k m end (number_of refusal) (place_of refusal)) k m refusal result }
 {
     if end < bytes.len() {
         return Err(Refusal::Length(end));
     }
-    Ok(Next::Ended(refusal))
+    Ok(ControlFlow::Break(refusal))
 }
 
 /// Compares the time and the check sum behind call `number`, at `at`, with those of the player.
@@ -168,28 +157,16 @@ fn check_stamp(
     number: usize,
     at: usize,
     state: &[u64],
-) -> Result<Next, Refusal>
+) -> Result<ControlFlow<Refusal, usize>, Refusal>
     requires at { at ≤ length bytes.now }
     requires state { 6 * player.now.system.count ≤ length state.now }
     ensures { (checkpoints : List ℕ) → Compared (rules_of player.now.system) bytes.now number at (machine_of player.now state.now checkpoints) result }
 {
-    if bytes.len() - at < 16 {
+    let Some(stamp) = bytes[at..].first_chunk() else {
         return Err(Refusal::Length(bytes.len()));
-    }
-    if !has_stamp(player, bytes, at, state) {
+    };
+    if Stamp::read(stamp) != Stamp::of(player, state) {
         return Err(Refusal::Record(number));
     }
-    Ok(Next::On(at + 16))
-}
-
-/// Tells whether the sixteen bytes from `at` on are the player's time and check sum.
-fn has_stamp(player: &Player, bytes: &[u8], at: usize, state: &[u64]) -> bool
-    requires at { at + 16 ≤ length bytes.now }
-    requires state { 6 * player.now.system.count ≤ length state.now }
-    ensures { result ≡ (number_at 8 bytes.now at == time_word player.now.time && number_at 8 bytes.now (at + 8) == state_sum player.now.system.count (state_of player.now.system.count state.now)) }
-{
-    let time = number_in(&bytes[at..at + 8]);
-    let sum = number_in(&bytes[at + 8..at + 16]);
-    let expected = state_sum(player, state);
-    (time == player.time().cast_unsigned()) & (sum == expected)
+    Ok(ControlFlow::Continue(at + 16))
 }

@@ -3,6 +3,7 @@
 #![tactic(auto)]
 
 mod checking;
+mod stamp;
 mod writing;
 
 pub use checking::{Accepted, check_log};

@@ -1,20 +1,18 @@
 //! Writing a log of calls that are made.
-ghost use Rattle.std.specs.Prelude.{◌≡◌, ℕ, ◌*◌, ◌<◌, ◌≤◌, List, ◌++◌, length, IfSome, IfOk, vec_items, OnOk};
+ghost use Rattle.std.specs.Prelude.{◌≡◌, ◌<◌, ◌++◌, length, IfSome, IfOk, vec_items, OnOk};
 ghost use Rattle.std.specs.Option.{option_map};
-ghost use Rattle.words.specs.Bytes.{bytes_of};
 ghost use Rattle.motion.specs.Refusals.{good, number_of};
 ghost use Rattle.calls.specs.Checkpoints.{machine_of};
 ghost use Rattle.calls.specs.Machine.{rules_of};
 ghost use Rattle.calls.specs.Reports.{BehindSame, opening_told};
 ghost use Rattle.calls.specs.SystemBytes.{count_in, room_told};
-ghost use Rattle.logs.specs.Logs.{Log, stamp as stamp_of};
+ghost use Rattle.logs.specs.Logs.{Log};
 ghost use Rattle.logs.specs.Writing.{Recorded, fault_written, written_from, written_in};
 
-use crate::checking::state_sum;
+use crate::stamp::Stamp;
 use calls::{Call, Player};
 use motion::Refusal;
 use std::alloc::{AllocError, Global};
-use words::write_number;
 
 /// Writes the log of the calls behind the system in front of `bytes`, as they are made; nothing where the system is refused.
 /// Where memory for the log is wanting, some of the calls may have been made. The slices are lent as to `Player::open`, as
@@ -55,14 +53,13 @@ fn write_calls(
     ensures behind { BehindSame player.old.system.count state.old state.new checkpoints.old checkpoints.new work.old work.new }
 {
     let mut at = from;
-    for number in 0..bytes.len() {
-        if at >= bytes.len() {
-            return Ok(());
-        }
+    let mut number = 0;
+    while at < bytes.len() {
         match write_call(player, bytes, number, at, log, state, checkpoints, work)? {
             Some(next) => at = next,
             None => return Ok(()),
         }
+        number += 1;
     }
     Ok(())
 }
@@ -91,35 +88,15 @@ fn write_call(
             return Ok(None);
         }
     };
-    match player.obey(call, number, state, checkpoints, work) {
+    let answer = player.obey(call, number, state, checkpoints, work);
+    call.encode(log)?;
+    match answer {
         Ok(_) => {
-            call.encode(log)?;
-            write_stamp(player, state, log)?;
+            Stamp::of(player, state).encode(log)?;
             Ok(Some(at + call.size()))
         }
-        Err(_) => {
-            call.encode(log)?;
-            Ok(None)
-        }
+        Err(_) => Ok(None),
     }
-}
-
-/// Appends the time and the check sum of a player.
-fn write_stamp(player: &Player, state: &[u64], log: &mut Vec<u8>) -> Result<(), AllocError>
-    requires { 6 * player.now.system.count ≤ length state.now }
-    ensures { OnOk result ((checkpoints : List ℕ) → log.new.items ≡ log.old.items ++ stamp_of player.now.system.count (machine_of player.now state.now checkpoints)) }
-{
-    append_word(log, player.time().cast_unsigned())?;
-    append_word(log, state_sum(player, state))
-}
-
-/// Appends the eight bytes of a word.
-fn append_word(log: &mut Vec<u8>, word: u64) -> Result<(), AllocError>
-    ensures { OnOk result (log.new.items ≡ log.old.items ++ bytes_of 8 word) }
-{
-    let mut bytes = [0; 8];
-    write_number(&mut bytes, word);
-    log.extend_from_slice(&bytes)
 }
 
 /// Appends what is left of bytes that are no call: a kind that there is not.

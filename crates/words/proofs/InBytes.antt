@@ -1,8 +1,9 @@
 -- Numbers in bytes, at every width: each byte is one digit to the base 256, so all is shown byte by byte.
 use Rattle.std.proofs.Common.{◌≡◌, ℕ, zero, suc, ◌+◌, ◌-◌, ◌*◌, ◌/◌, ◌%◌, ◌^◌, ◌<◌, ◌≤◌, List, [], ◌∷◌, ◌++◌, length, get_or, take, drop, set, reverse, sym, refl, ap, ◌∙◌, add-zero, zero-add, mod-eq_of_lt, pow-suc, arith}
-use native.Mathlib.Nat.{mod-one, one-le-pow, pow-le-pow_right}
+use native.Mathlib.Nat.{div-div-eq-div-mul, mod-one, one-le-pow, pow-le-pow_right}
 use borrow.Rule.Slice.PartMut.{put_mid}
 use lib.Arith.{mod-mul}
+use Rattle.std.specs.Int.{bytes_low_first}
 use Rattle.std.specs.List.{between, fold}
 use Rattle.std.proofs.lemmas.List.Edits.{length-between, get_or-between}
 use Rattle.std.proofs.lemmas.Grind.{reverse_onto}
@@ -49,6 +50,21 @@ unfolding bytes_of
 small_bytes zero n j = omega arith
 small_bytes (suc k) n zero = omega arith
 small_bytes (suc k) n (suc j) = small_bytes k (n / 256) j
+
+-- the bytes of a number behind the first i + 1, as the library takes them
+bytes_behind : (i k n : ℕ) → bytes_low_first (suc i) k n ≡ bytes_of k (n / 256 ^ suc i)
+unfolding bytes_of
+bytes_behind i zero n = refl
+bytes_behind i (suc k) n =
+    let next : n / 256 ^ suc (suc i) ≡ n / 256 ^ suc i / 256 = ap (λ m. n / m) (pow-suc 256 (suc i)) ∙ sym (div-div-eq-div-mul n (256 ^ suc i) 256) in
+    let others = bytes_behind (suc i) k n ∙ ap (bytes_of k) next in
+    λ j. n / 256 ^ suc i % 256 ∷ others j
+
+-- the bytes that the library's `to_le_bytes` gives are these, at every width
+pub library_bytes : (k n : ℕ) → bytes_low_first 0 k n ≡ bytes_of k n
+unfolding bytes_of
+library_bytes zero n = refl
+library_bytes (suc k) n = ap (λ l. n % 256 ∷ l) (bytes_behind 0 k n)
 
 -- the bytes of a number, read again, are the number, but for what did not fit into them
 pub number_of_bytes : (k n : ℕ) (xs : List ℕ) (at : ℕ) → ((j : ℕ) → j < k → get_or xs (at + j) 0 ≡ get_or (bytes_of k n) j 0) → number_at k xs at ≡ n % 256 ^ k

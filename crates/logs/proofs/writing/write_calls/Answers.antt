@@ -1,5 +1,5 @@
 -- Each turn appends one record more.
-use Rattle.std.proofs.Common.{◌+◌, ◌-◌, ◌≤◌, ◌++◌, length, vec_items, sym, ap, ◌∙◌, subst, append-nil, arith}
+use Rattle.std.proofs.Common.{◌+◌, ◌-◌, ◌++◌, length, vec_items, sym, ap, ◌∙◌, subst, append-nil, arith}
 use Rattle.calls.specs.Checkpoints.{machine_of}
 use Rattle.calls.specs.Machine.{rules_of}
 use Rattle.calls.proofs.Traced.{behind_then}
@@ -7,30 +7,19 @@ use Rattle.logs.specs.Writing.{Recorded}
 use Rattle.logs.proofs.Recorded.{written_past, written_here}
 use Rattle.logs.proofs.writing.write_calls.Goals as goal
 
-pub returns-then-at-bytes : goal.returns-then-at-bytes
-returns-then-at-bytes c =
-    let l = c.loop-number in
-    record {
-      log = sym (l.invariant.0
-          ∙ ap (λ w. vec_items l.log ++ w) (written_past (rules_of c.args.player.now.system) c.args.bytes.now l.number l.at (machine_of l.player l.state l.checkpoints) _ c.if-at-bytes.true)
-          ∙ append-nil (vec_items l.log));
-      behind = l.invariant.2;
-    }
-
 pub returns : goal.returns
 returns c =
-    let l = c.loop-number in
-    let past : length c.args.bytes.now ≤ l.at = omega arith in
+    let l = c.loop-at in
     record {
       log = sym (l.invariant.0
-          ∙ ap (λ w. vec_items l.log ++ w) (written_past (rules_of c.args.player.now.system) c.args.bytes.now l.number l.at (machine_of l.player l.state l.checkpoints) _ past)
+          ∙ ap (λ w. vec_items l.log ++ w) (written_past (rules_of c.args.player.now.system) c.args.bytes.now l.number l.at (machine_of l.player l.state l.checkpoints) _ c.loop-at-test.false)
           ∙ append-nil (vec_items l.log));
       behind = l.invariant.2;
     }
 
 pub returns-in-None : goal.returns-in-None
 returns-in-None c =
-    let l = c.loop-number in
+    let l = c.loop-at in
     let bytes = c.args.bytes.now in
     let last = c.write_call.new in
     let recorded = subst
@@ -38,6 +27,6 @@ returns-in-None c =
     c.in-None.is c.in_ok-next.ensures.log in
     record {
       log = recorded (length bytes - (l.number + 1)) ∙ sym (l.invariant.0
-          ∙ ap (λ w. vec_items l.log ++ w) (written_here bytes l.number l.at (machine_of l.player l.state l.checkpoints) c.args.player.now.system l.player.system l.invariant.1 c.loop-number-test.true));
+          ∙ ap (λ w. vec_items l.log ++ w) (written_here bytes l.number l.at (machine_of l.player l.state l.checkpoints) c.args.player.now.system l.player.system l.invariant.1 (omega arith)));
       behind = behind_then (ap (λ s. s.count) l.invariant.1) l.invariant.2 c.write_call.ensures.behind;
     }

@@ -1,0 +1,57 @@
+//! What stands behind a call in a log: the time and the check sum after it.
+ghost use Rattle.std.specs.Prelude.{◌≡◌, ◌*◌, ◌≤◌, ◌++◌, length, OnOk};
+ghost use Rattle.words.specs.Bytes.{number_at, bytes_of};
+ghost use Rattle.motion.specs.Memory.{state_of};
+ghost use Rattle.logs.specs.Logs.{state_sum, time_word};
+
+use calls::Player;
+use motion::check_sum;
+use std::alloc::AllocError;
+use words::number_in;
+
+/// The words of a time and of a check sum.
+#[derive(Clone, Copy, PartialEq, Eq)]
+pub(crate) struct Stamp {
+    time: u64,
+    sum: u64,
+}
+
+impl Stamp {
+    /// Gives the stamp of a player, and of its state.
+    pub(crate) fn of(player: &Player, state: &[u64]) -> Stamp
+        requires { 6 * player.now.system.count ≤ length state.now }
+        ensures time { result.time ≡ time_word player.now.time }
+        ensures sum { result.sum ≡ state_sum player.now.system.count (state_of player.now.system.count state.now) }
+    {
+        Stamp {
+            time: player.time().cast_unsigned(),
+            sum: check_sum(&state[..6 * player.count()]),
+        }
+    }
+
+    /// Reads the stamp in sixteen bytes.
+    pub(crate) fn read(bytes: &[u8; 16]) -> Stamp
+        ensures time { result.time ≡ number_at 8 bytes.now 0 }
+        ensures sum { result.sum ≡ number_at 8 bytes.now 8 }
+    {
+        Stamp {
+            time: number_in(&bytes[..8]),
+            sum: number_in(&bytes[8..]),
+        }
+    }
+
+    /// Appends the sixteen bytes of the stamp.
+    pub(crate) fn encode(self, log: &mut Vec<u8>) -> Result<(), AllocError>
+        ensures { OnOk result (log.new.items ≡ log.old.items ++ (bytes_of 8 self.time ++ bytes_of 8 self.sum)) }
+    {
+        append_word(log, self.time)?;
+        append_word(log, self.sum)
+    }
+}
+
+/// Appends the eight bytes of a word.
+fn append_word(log: &mut Vec<u8>, word: u64) -> Result<(), AllocError>
+    ensures { OnOk result (log.new.items ≡ log.old.items ++ bytes_of 8 word) }
+{
+    log.extend_from_slice(&word.to_le_bytes())
+}
