@@ -1,8 +1,9 @@
 -- One call of a log: what the inner functions find is what is told of the log from there on.
-use Rattle.std.proofs.Common.{◌≡◌, ℕ, zero, suc, ◌+◌, ◌-◌, ◌<◌, ◌≤◌, Bool, cond, List, length, Ok, Err, Result, ControlFlow, Continue, Break, sym, refl, ap, ◌∙◌, arith, le-leb, le-ltb}
+use Rattle.std.proofs.Common.{◌≡◌, ℕ, zero, suc, ◌+◌, ◌-◌, ◌<◌, ◌≤◌, Bool, false, cond, eqb, List, length, Ok, Err, Result, ControlFlow, Continue, Break, sym, refl, ap, ◌∙◌, arith, le-leb, le-ltb}
 use borrow.Author.Tests.{lt-leb}
-use Rattle.motion.specs.Refusals.{Told, good, refused}
+use Rattle.motion.specs.Refusals.{Told, good, refused, number_of, place_of}
 use Rattle.motion.specs.declared.refusal.Refusal.{Refusal}
+use Rattle.motion.specs.declared.refusal.Refusal.TheVariants.{Kind}
 use Rattle.motion.specs.declared.system.System.{System}
 use Rattle.calls.specs.Calls.{size_of, call_at}
 use Rattle.calls.specs.Checkpoints.{machine_of}
@@ -10,7 +11,7 @@ use Rattle.calls.specs.Machine.{Rules, Machine, rules_of, obey}
 use Rattle.calls.specs.declared.answer.Answer.{Answer}
 use Rattle.calls.specs.declared.call.Call.{Call}
 use Rattle.calls.specs.declared.player.Player.{Player}
-use Rattle.logs.specs.Checking.{Acceptance, over_told, ended_told, stamp_told, answer_told, call_told, log_told}
+use Rattle.logs.specs.Checking.{Acceptance, over_told, ended_told, fault_told, stamp_told, answer_told, call_told, log_told}
 use Rattle.logs.proofs.Stamps.{same}
 use Rattle.logs.specs.Checks.{ends_in, EndsAs, Compared, Found}
 
@@ -46,6 +47,23 @@ module _ (rules : Rules) (bytes : List ℕ) (k at : ℕ) (m : Machine) where
         told_call there most (good call) e
         ∙ ap (λ t. answer_told rules bytes k (at + size_of call) m t (obey rules m k call).after (log_told rules bytes most (k + 1) (at + size_of call + 16) (obey rules m k call).after)) why
         ∙ ap (λ n. ended_told rules bytes k m n number place) (sym size)
+
+-- a refusal of another kind than `Kind` has another number
+pub other_number : (refusal : Refusal) → ((call : ℕ) → refusal ≡ Kind call → ⊥) → eqb (number_of refusal) 4 ≡ false
+other_number (Kind call) other = absurd (other call refl)
+other_number refusal other = refl
+
+-- what is told of bytes that are no call, by whether they are of a kind that there is not
+module _ (rules : Rules) (bytes : List ℕ) (k at : ℕ) (m : Machine) (refusal : Refusal) where
+  pub fault_of_kind : (call : ℕ) → refusal ≡ Kind call →
+      fault_told rules bytes k at m (number_of refusal) (place_of refusal) ≡ ended_told rules bytes k m (at + 1) (number_of refusal) (place_of refusal)
+  fault_of_kind call e = ap (λ b. cond b (ended_told rules bytes k m (at + 1) (number_of refusal) (place_of refusal)) (refused (number_of refusal) (place_of refusal)))
+      (ap (λ r. eqb (number_of r) 4) e)
+
+  pub fault_of_another : ((call : ℕ) → refusal ≡ Kind call → ⊥) →
+      fault_told rules bytes k at m (number_of refusal) (place_of refusal) ≡ refused (number_of refusal) (place_of refusal)
+  fault_of_another other = ap (λ b. cond b (ended_told rules bytes k m (at + 1) (number_of refusal) (place_of refusal)) (refused (number_of refusal) (place_of refusal)))
+      (other_number refusal other)
 
 -- what is told of sixteen bytes that are there, by whether they are the stamp
 pub told_by_stamp : (rules : Rules) (bytes : List ℕ) (k at : ℕ) (m : Machine) (b : Bool) → at + 16 ≤ length bytes → same rules.count bytes m at ≡ b → (rest : Told Acceptance) →

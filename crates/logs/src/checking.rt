@@ -5,7 +5,7 @@ ghost use Rattle.calls.specs.Checkpoints.{machine_of};
 ghost use Rattle.calls.specs.Machine.{Machine, Rules, rules_of};
 ghost use Rattle.calls.specs.Reports.{BehindSame, opening_told};
 ghost use Rattle.calls.specs.SystemBytes.{count_in, room_told};
-ghost use Rattle.logs.specs.Checking.{Acceptance, accepted_text, checked, ended_told, fault_told, log_in, log_told};
+ghost use Rattle.logs.specs.Checking.{Acceptance, accepted_text, checked, ended_told, log_in, log_told};
 ghost use Rattle.logs.specs.Logs.{FirstWrong, InStamp, Log};
 ghost use Rattle.logs.specs.Checks.{Compared, EndsAs, Found};
 
@@ -112,27 +112,18 @@ fn check_call(
 {
     let call = match Call::decode(bytes, number, at) {
         Ok(call) => call,
-        Err(refusal) => return check_fault(bytes, at, refusal),
+        Err(refusal) => {
+            // Of a call of a kind that there is not, a log has the kind alone.
+            if let Refusal::Kind(_) = refusal {
+                return check_end(bytes, at + 1, refusal);
+            }
+            return Err(refusal);
+        }
     };
     let end = at + call.size();
     match player.obey(call, number, state, checkpoints, work) {
         Ok(_) => check_stamp(player, bytes, number, end, state),
         Err(refusal) => check_end(bytes, end, refusal),
-    }
-}
-
-/// Looks at bytes that are no call: a kind that there is not may end a log.
-fn check_fault(
-    bytes: &[u8],
-    at: usize,
-    refusal: Refusal,
-) -> Result<ControlFlow<Refusal, usize>, Refusal>
-    requires { at < length bytes.now }
-    ensures { (rules : Rules) (k : ℕ) (m : Machine) → EndsAs (fault_told rules bytes.now k at m (number_of refusal) (place_of refusal)) k m refusal result }
-{
-    match refusal {
-        Refusal::Kind(_) => check_end(bytes, at + 1, refusal),
-        _ => Err(refusal),
     }
 }
 

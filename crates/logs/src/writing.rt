@@ -1,13 +1,13 @@
 //! Writing a log of calls that are made.
 ghost use Rattle.std.specs.Prelude.{◌≡◌, ◌<◌, ◌++◌, length, IfSome, IfOk, vec_items, OnOk};
 ghost use Rattle.std.specs.Option.{option_map};
-ghost use Rattle.motion.specs.Refusals.{good, number_of};
+ghost use Rattle.motion.specs.Refusals.{good};
 ghost use Rattle.calls.specs.Checkpoints.{machine_of};
 ghost use Rattle.calls.specs.Machine.{rules_of};
 ghost use Rattle.calls.specs.Reports.{BehindSame, opening_told};
 ghost use Rattle.calls.specs.SystemBytes.{count_in, room_told};
 ghost use Rattle.logs.specs.Logs.{Log};
-ghost use Rattle.logs.specs.Writing.{Recorded, fault_written, written_from, written_in};
+ghost use Rattle.logs.specs.Writing.{Recorded, written_from, written_in};
 
 use crate::stamp::Stamp;
 use calls::{Call, Player};
@@ -84,7 +84,10 @@ fn write_call(
     let call = match Call::decode(bytes, number, at) {
         Ok(call) => call,
         Err(refusal) => {
-            write_fault(bytes, at, refusal, log)?;
+            // Of a call of a kind that there is not, a log has the kind alone.
+            if let Refusal::Kind(_) = refusal {
+                log.push(bytes[at])?;
+            }
             return Ok(None);
         }
     };
@@ -97,20 +100,4 @@ fn write_call(
         }
         Err(_) => Ok(None),
     }
-}
-
-/// Appends what is left of bytes that are no call: a kind that there is not.
-fn write_fault(
-    bytes: &[u8],
-    at: usize,
-    refusal: Refusal,
-    log: &mut Vec<u8>,
-) -> Result<(), AllocError>
-    requires { at < length bytes.now }
-    ensures { OnOk result (log.new.items ≡ log.old.items ++ fault_written bytes.now at (number_of refusal)) }
-{
-    if let Refusal::Kind(_) = refusal {
-        log.push(bytes[at])?;
-    }
-    Ok(())
 }

@@ -3,29 +3,37 @@ use Rattle.std.proofs.Common.{◌+◌, sym, refl, ap, ◌∙◌, subst, arith}
 use Rattle.motion.specs.Refusals.{refused, number_of, place_of}
 use Rattle.calls.specs.Checkpoints.{machine_of}
 use Rattle.calls.specs.Machine.{rules_of, provided, obey}
-use Rattle.calls.proofs.Traced.{behind_untouched}
 use Rattle.logs.specs.Checks.{Compared}
-use Rattle.logs.proofs.Found.{told_call, told_answered, told_refused, found_ended, found_stamp}
+use Rattle.logs.proofs.Found.{told_call, told_answered, told_refused, fault_of_kind, fault_of_another, found_ended, found_stamp}
 use Rattle.logs.proofs.checking.check_call.Goals as goal
 
-pub returns-in-Err : goal.returns-in-Err
-returns-in-Err c =
+pub returns-in-Kind-clause-found : goal.returns-in-Kind-clause-found
+returns-in-Kind-clause-found c =
     let player = c.args.player.now in
     let state = c.args.state.now in
     let kept = c.args.checkpoints.now in
     let bytes = c.args.bytes.now in
+    let k = c.args.number in
     let rules = rules_of player.system in
     let m = machine_of player state kept in
     let e = c.in-Err.refusal in
-    record {
-      found = found_ended bytes c.args.number c.args.at player player state state kept kept e _ c.check_fault.result
-          (c.check_fault.ensures rules c.args.number m)
-          (λ most. told_call rules bytes c.args.number c.args.at m c.requires.at most (refused (number_of e) (place_of e)) (sym c.in-Err.ensures.answer)) refl;
-      behind = record { state_behind = refl; checkpoints_behind = refl; work_behind = refl };
-    }
+    found_ended bytes k c.args.at player player state state kept kept e _ c.check_end.result (c.check_end.ensures rules k m)
+        (λ most. told_call rules bytes k c.args.at m c.requires.at most (refused (number_of e) (place_of e)) (sym c.in-Err.ensures.answer)
+        ∙ fault_of_kind rules bytes k c.args.at m e _ c.in-Kind.is) refl
 
-pub returns-in-Ok-obey : goal.returns-in-Ok-obey
-returns-in-Ok-obey c =
+pub returns-in-Err-clause-found : goal.returns-in-Err-clause-found
+returns-in-Err-clause-found c =
+    let player = c.args.player.now in
+    let bytes = c.args.bytes.now in
+    let k = c.args.number in
+    let rules = rules_of player.system in
+    let m = machine_of player c.args.state.now c.args.checkpoints.now in
+    let e = c.in-Err.refusal in
+    λ most. told_call rules bytes k c.args.at m c.requires.at most (refused (number_of e) (place_of e)) (sym c.in-Err.ensures.answer)
+        ∙ fault_of_another rules bytes k c.args.at m e c.in_default.not-Kind
+
+pub returns-in-Ok-obey-clause-found : goal.returns-in-Ok-obey-clause-found
+returns-in-Ok-obey-clause-found c =
     let player = c.args.player.now in
     let state = c.args.state.now in
     let kept = c.args.checkpoints.now in
@@ -39,19 +47,12 @@ returns-in-Ok-obey c =
     let end = c.args.at + c.size.result in
     let compared = subst (λ s. Compared (rules_of s) bytes k end (machine_of c.obey.new.self c.obey.new.state c.obey.new.checkpoints) c.check_stamp.result)
     obeyed.outside.system (c.check_stamp.ensures c.obey.new.checkpoints) in
-    record {
-      found = found_stamp bytes k c.args.at end player c.obey.new.self state c.obey.new.state kept c.obey.new.checkpoints c.check_stamp.result (omega arith) obeyed.outside.system compared
-          (λ most. told_answered rules bytes k c.args.at m c.requires.at call end (sym c.in-Ok.ensures.answer) (ap (λ n. c.args.at + n) c.size.ensures)
-          most c.in-Ok-obey.field-0 (machine_of c.obey.new.self c.obey.new.state c.obey.new.checkpoints) (sym said) obeyed.machine);
-      behind = record {
-        state_behind = obeyed.outside.state_behind;
-        checkpoints_behind = obeyed.checkpoints_behind;
-        work_behind = obeyed.outside.work_behind;
-      };
-    }
+    found_stamp bytes k c.args.at end player c.obey.new.self state c.obey.new.state kept c.obey.new.checkpoints c.check_stamp.result (omega arith) obeyed.outside.system compared
+        (λ most. told_answered rules bytes k c.args.at m c.requires.at call end (sym c.in-Ok.ensures.answer) (ap (λ n. c.args.at + n) c.size.ensures)
+        most c.in-Ok-obey.field-0 (machine_of c.obey.new.self c.obey.new.state c.obey.new.checkpoints) (sym said) obeyed.machine)
 
-pub returns-in-Err-obey : goal.returns-in-Err-obey
-returns-in-Err-obey c =
+pub returns-in-Err-obey-clause-found : goal.returns-in-Err-obey-clause-found
+returns-in-Err-obey-clause-found c =
     let player = c.args.player.now in
     let state = c.args.state.now in
     let kept = c.args.checkpoints.now in
@@ -61,13 +62,9 @@ returns-in-Err-obey c =
     let k = c.args.number in
     let call = c.in-Ok.call in
     let e = c.in-Err-obey.refusal in
-    let same = c.in-Err-obey.ensures.left in
     let why = c.in-Err-obey.ensures.answer ∙ ap (λ t. provided t (obey rules m k call).answer) c.requires.room in
     let end = c.args.at + c.size.result in
-    record {
-      found = found_ended bytes k c.args.at player c.obey.new.self state c.obey.new.state kept c.obey.new.checkpoints e _ c.check_end.result
-          (c.check_end.ensures rules k m)
-          (λ most. told_refused rules bytes k c.args.at m c.requires.at call end (sym c.in-Ok.ensures.answer) (ap (λ n. c.args.at + n) c.size.ensures)
-          most (number_of e) (place_of e) (sym why)) same.player_same;
-      behind = behind_untouched same player.system.count;
-    }
+    found_ended bytes k c.args.at player c.obey.new.self state c.obey.new.state kept c.obey.new.checkpoints e _ c.check_end-in-Err-obey.result
+        (c.check_end-in-Err-obey.ensures rules k m)
+        (λ most. told_refused rules bytes k c.args.at m c.requires.at call end (sym c.in-Ok.ensures.answer) (ap (λ n. c.args.at + n) c.size.ensures)
+        most (number_of e) (place_of e) (sym why)) c.in-Err-obey.ensures.left.player_same
