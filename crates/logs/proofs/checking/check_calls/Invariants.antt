@@ -8,11 +8,13 @@ use Rattle.logs.proofs.checking.check_calls.Given as goal
 
 abbrev pub invariant-loop-at : goal.invariant-loop-at
 invariant-loop-at l =
-    (log_told (rules_of l.initial.player.system) l.bytes (length l.bytes) 0 l.from (machine_of l.initial.player l.initial.state l.initial.checkpoints)
-    ≡ log_told (rules_of l.initial.player.system) l.bytes (length l.bytes - l.calls) l.calls l.at (machine_of l.player l.state l.checkpoints))
-    × (l.player.system ≡ l.initial.player.system)
-    × BehindSame l.initial.player.system.count l.initial.state l.state l.initial.checkpoints l.checkpoints l.initial.work l.work
-    × (l.calls ≤ l.at)
+    record {
+      told : log_told (rules_of l.initial.player.system) l.bytes (length l.bytes) 0 l.from (machine_of l.initial.player l.initial.state l.initial.checkpoints)
+          ≡ log_told (rules_of l.initial.player.system) l.bytes (length l.bytes - l.calls) l.calls l.at (machine_of l.player l.state l.checkpoints);
+      system : l.player.system ≡ l.initial.player.system;
+      behind : BehindSame l.initial.player.system.count l.initial.state l.state l.initial.checkpoints l.checkpoints l.initial.work l.work;
+      further : l.calls ≤ l.at;
+    }
 
 -- each call ends behind its beginning
 abbrev pub decreases-loop-at : goal.decreases-loop-at

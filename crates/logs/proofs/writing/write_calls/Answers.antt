@@ -2,31 +2,24 @@
 use Rattle.std.proofs.Common.{◌+◌, ◌-◌, ◌++◌, length, vec_items, sym, ap, ◌∙◌, subst, append-nil, arith}
 use Rattle.calls.specs.Checkpoints.{machine_of}
 use Rattle.calls.specs.Machine.{rules_of}
-use Rattle.calls.proofs.Traced.{behind_then}
 use Rattle.logs.specs.Writing.{Recorded}
 use Rattle.logs.proofs.Recorded.{written_past, written_here}
 use Rattle.logs.proofs.writing.write_calls.Goals as goal
 
-pub returns : goal.returns
-returns c =
+pub returns-clause-log : goal.returns-clause-log
+returns-clause-log c =
     let l = c.loop-at in
-    record {
-      log = sym (l.invariant.0
-          ∙ ap (λ w. vec_items l.log ++ w) (written_past (rules_of c.args.player.now.system) c.args.bytes.now l.number l.at (machine_of l.player l.state l.checkpoints) _ c.loop-at-test.false)
-          ∙ append-nil (vec_items l.log));
-      behind = l.invariant.2;
-    }
+    sym (l.invariant.written
+        ∙ ap (λ w. vec_items l.log ++ w) (written_past (rules_of c.args.player.now.system) c.args.bytes.now l.number l.at (machine_of l.player l.state l.checkpoints) _ c.loop-at-test.false)
+        ∙ append-nil (vec_items l.log))
 
-pub returns-in-None : goal.returns-in-None
-returns-in-None c =
+pub returns-in-None-clause-log : goal.returns-in-None-clause-log
+returns-in-None-clause-log c =
     let l = c.loop-at in
     let bytes = c.args.bytes.now in
     let last = c.write_call.new in
     let recorded = subst
     (λ n. Recorded bytes l.number l.at n l.player last.player l.state last.state l.checkpoints last.checkpoints (vec_items l.log) (vec_items last.log))
     c.in-None.is c.in_ok-next.ensures.log in
-    record {
-      log = recorded (length bytes - (l.number + 1)) ∙ sym (l.invariant.0
-          ∙ ap (λ w. vec_items l.log ++ w) (written_here bytes l.number l.at (machine_of l.player l.state l.checkpoints) c.args.player.now.system l.player.system l.invariant.1 (omega arith)));
-      behind = behind_then (ap (λ s. s.count) l.invariant.1) l.invariant.2 c.write_call.ensures.behind;
-    }
+    recorded (length bytes - (l.number + 1)) ∙ sym (l.invariant.written
+        ∙ ap (λ w. vec_items l.log ++ w) (written_here bytes l.number l.at (machine_of l.player l.state l.checkpoints) c.args.player.now.system l.player.system l.invariant.system (omega arith)))
