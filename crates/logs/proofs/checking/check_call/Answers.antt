@@ -18,8 +18,8 @@ returns-in-Kind-clause-found c =
     let m = machine_of player state kept in
     let e = c.in-Err.refusal in
     found_ended bytes k c.args.at player player state state kept kept e _ c.check_end.result (c.check_end.ensures rules k m)
-        (λ most. told_call rules bytes k c.args.at m c.requires.at most (refused (number_of e) (place_of e)) (sym c.in-Err.ensures.answer)
-        ∙ fault_of_kind rules bytes k c.args.at m e _ c.in-Kind.is) refl
+    (λ most. told_call rules bytes k c.args.at m c.requires.at most (refused (number_of e) (place_of e)) (sym c.in-Err.ensures.answer)
+    ∙ fault_of_kind rules bytes k c.args.at m e _ c.in-Kind.is) refl
 
 pub returns-in-Err-clause-found : goal.returns-in-Err-clause-found
 returns-in-Err-clause-found c =
@@ -30,7 +30,7 @@ returns-in-Err-clause-found c =
     let m = machine_of player c.args.state.now c.args.checkpoints.now in
     let e = c.in-Err.refusal in
     λ most. told_call rules bytes k c.args.at m c.requires.at most (refused (number_of e) (place_of e)) (sym c.in-Err.ensures.answer)
-        ∙ fault_of_another rules bytes k c.args.at m e c.in_default.not-Kind
+    ∙ fault_of_another rules bytes k c.args.at m e c.in_default.not-Kind
 
 pub returns-in-Ok-obey-clause-found : goal.returns-in-Ok-obey-clause-found
 returns-in-Ok-obey-clause-found c =
@@ -48,8 +48,8 @@ returns-in-Ok-obey-clause-found c =
     let compared = subst (λ s. Compared (rules_of s) bytes k end (machine_of c.obey.new.self c.obey.new.state c.obey.new.checkpoints) c.check_stamp.result)
     obeyed.outside.system (c.check_stamp.ensures c.obey.new.checkpoints) in
     found_stamp bytes k c.args.at end player c.obey.new.self state c.obey.new.state kept c.obey.new.checkpoints c.check_stamp.result (omega arith) obeyed.outside.system compared
-        (λ most. told_answered rules bytes k c.args.at m c.requires.at call end (sym c.in-Ok.ensures.answer) (ap (λ n. c.args.at + n) c.size.ensures)
-        most c.in-Ok-obey.field-0 (machine_of c.obey.new.self c.obey.new.state c.obey.new.checkpoints) (sym said) obeyed.machine)
+    (λ most. told_answered rules bytes k c.args.at m c.requires.at call end (sym c.in-Ok.ensures.answer) (ap (λ n. c.args.at + n) c.size.ensures)
+    most c.in-Ok-obey.field-0 (machine_of c.obey.new.self c.obey.new.state c.obey.new.checkpoints) (sym said) obeyed.machine)
 
 pub returns-in-Err-obey-clause-found : goal.returns-in-Err-obey-clause-found
 returns-in-Err-obey-clause-found c =
@@ -65,6 +65,6 @@ returns-in-Err-obey-clause-found c =
     let why = c.in-Err-obey.ensures.answer ∙ ap (λ t. provided t (obey rules m k call).answer) c.requires.room in
     let end = c.args.at + c.size.result in
     found_ended bytes k c.args.at player c.obey.new.self state c.obey.new.state kept c.obey.new.checkpoints e _ c.check_end-in-Err-obey.result
-        (c.check_end-in-Err-obey.ensures rules k m)
-        (λ most. told_refused rules bytes k c.args.at m c.requires.at call end (sym c.in-Ok.ensures.answer) (ap (λ n. c.args.at + n) c.size.ensures)
-        most (number_of e) (place_of e) (sym why)) c.in-Err-obey.ensures.left.player_same
+    (c.check_end-in-Err-obey.ensures rules k m)
+    (λ most. told_refused rules bytes k c.args.at m c.requires.at call end (sym c.in-Ok.ensures.answer) (ap (λ n. c.args.at + n) c.size.ensures)
+    most (number_of e) (place_of e) (sym why)) c.in-Err-obey.ensures.left.player_same

@@ -21,8 +21,8 @@ returns-in_err-next-clause-answer c =
     let bytes = c.args.bytes.now in
     let p = err_from_is_err_and c.from_residual.result c.from_residual.ensures.1 in
     rw (p.1, p.2) (sym (l.invariant.told
-        ∙ from_here bytes l.calls l.at (machine_of l.player l.state l.checkpoints) c.args.player.now.system l.player.system l.invariant.system (omega arith)
-        ∙ c.in_err-next.ensures.found (length bytes - (l.calls + 1))))
+    ∙ from_here bytes l.calls l.at (machine_of l.player l.state l.checkpoints) c.args.player.now.system l.player.system l.invariant.system (omega arith)
+    ∙ c.in_err-next.ensures.found (length bytes - (l.calls + 1))))
 
 pub returns-in-Break-clause-answer : goal.returns-in-Break-clause-answer
 returns-in-Break-clause-answer c =

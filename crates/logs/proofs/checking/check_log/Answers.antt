@@ -1,9 +1,7 @@
 -- The system is opened, and its calls are checked.
-use Rattle.std.proofs.Common.{length, drop, Err, refl, ap, ◌∙◌}
+use Rattle.std.proofs.Common.{length, Err, ap, ◌∙◌}
 use Rattle.std.proofs.lemmas.Result.{err_from_is_err_and}
-use Rattle.motion.specs.Memory.{state_length}
-use Rattle.calls.specs.Checkpoints.{checkpoints_length}
-use Rattle.calls.specs.SystemBytes.{body_at, count_in}
+use Rattle.calls.specs.SystemBytes.{body_at}
 use Rattle.calls.proofs.Played.{opened_behind}
 use Rattle.calls.proofs.Traced.{behind_then}
 use Rattle.logs.specs.Checking.{log_in, log_told}
@@ -33,22 +31,13 @@ returns c =
           c.check_calls.ensures.behind;
     }
 
-pub returns-in_err-player : goal.returns-in_err-player
-returns-in_err-player c =
+pub returns-in_err-player-clause-right : goal.returns-in_err-player-clause-right
+returns-in_err-player-clause-right c =
     let p = err_from_is_err_and c.from_residual.result c.from_residual.ensures.1 in
     let bytes = c.args.bytes.now in
-    let e = c.in_err-player.ensures in
-    let answer = ap (log_in bytes) e.answer in
-    let judged = judge bytes (λ j. (c.type_inv.bytes j).fits) (length c.args.state.now) (length c.args.checkpoints.now) (length c.args.work.now) (Err c.in_err-player.field-0.0) answer in
-    rw (p.1, p.2) (record {
-      answer = answer;
-      right = judged.right;
-      accepts = judged.accepts;
-      refuses = judged.refuses;
-      altered = λ j i v in-stamp byte other. altered_told bytes (λ k. (c.type_inv.bytes k).fits) j i v byte other in-stamp;
-      behind = record {
-        state_behind = ap (drop (state_length (count_in bytes))) e.left.0;
-        checkpoints_behind = ap (drop (checkpoints_length (count_in bytes))) e.left.1;
-        work_behind = refl;
-      };
-    })
+    let answer = ap (log_in bytes) c.in_err-player.ensures.answer in
+    rw (p.1, p.2)
+    (judge bytes (λ j. (c.type_inv.bytes j).fits) (length c.args.state.now) (length c.args.checkpoints.now) (length c.args.work.now) (Err c.in_err-player.field-0.0) answer).right
+
+pub returns-in_err-player-clause-altered : goal.returns-in_err-player-clause-altered
+returns-in_err-player-clause-altered c = λ j i v in-stamp byte other. altered_told c.args.bytes.now (λ k. (c.type_inv.bytes k).fits) j i v byte other in-stamp

@@ -19,8 +19,8 @@ returns-in_ok-push-in-Err-clause-log c =
     let m = machine_of player c.args.state.now c.args.checkpoints.now in
     let e = c.in-Err.refusal in
     λ most. c.in_ok-push-in-Err.ensures.items
-        ∙ ap (λ l. vec_items c.args.log.now ++ l) (sym (written_call (rules_of player.system) bytes c.args.number at m c.requires.at most
-        (refused (number_of e) (place_of e)) (sym c.in-Err.ensures.answer) ∙ ap (λ r. fault_written bytes at (number_of r)) c.in-Kind.is))
+    ∙ ap (λ l. vec_items c.args.log.now ++ l) (sym (written_call (rules_of player.system) bytes c.args.number at m c.requires.at most
+    (refused (number_of e) (place_of e)) (sym c.in-Err.ensures.answer) ∙ ap (λ r. fault_written bytes at (number_of r)) c.in-Kind.is))
 
 pub returns-in_default-clause-log : goal.returns-in_default-clause-log
 returns-in_default-clause-log c =
@@ -31,8 +31,8 @@ returns-in_default-clause-log c =
     let e = c.in-Err.refusal in
     let log = vec_items c.args.log.now in
     λ most. sym (ap (λ l. log ++ l) (written_call (rules_of player.system) bytes c.args.number at m c.requires.at most
-        (refused (number_of e) (place_of e)) (sym c.in-Err.ensures.answer) ∙ ap (λ b. cond b (get_or bytes at 0 ∷ []) []) (other_number e c.in_default.not-Kind))
-        ∙ append-nil log)
+    (refused (number_of e) (place_of e)) (sym c.in-Err.ensures.answer) ∙ ap (λ b. cond b (get_or bytes at 0 ∷ []) []) (other_number e c.in_default.not-Kind))
+    ∙ append-nil log)
 
 pub returns-in-Err-answer-clause-log : goal.returns-in-Err-answer-clause-log
 returns-in-Err-answer-clause-log c =

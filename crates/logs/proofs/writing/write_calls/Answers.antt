@@ -10,8 +10,8 @@ pub returns-clause-log : goal.returns-clause-log
 returns-clause-log c =
     let l = c.loop-at in
     sym (l.invariant.written
-        ∙ ap (λ w. vec_items l.log ++ w) (written_past (rules_of c.args.player.now.system) c.args.bytes.now l.number l.at (machine_of l.player l.state l.checkpoints) _ c.loop-at-test.false)
-        ∙ append-nil (vec_items l.log))
+    ∙ ap (λ w. vec_items l.log ++ w) (written_past (rules_of c.args.player.now.system) c.args.bytes.now l.number l.at (machine_of l.player l.state l.checkpoints) _ c.loop-at-test.false)
+    ∙ append-nil (vec_items l.log))
 
 pub returns-in-None-clause-log : goal.returns-in-None-clause-log
 returns-in-None-clause-log c =
@@ -22,4 +22,4 @@ returns-in-None-clause-log c =
     (λ n. Recorded bytes l.number l.at n l.player last.player l.state last.state l.checkpoints last.checkpoints (vec_items l.log) (vec_items last.log))
     c.in-None.is c.in_ok-next.ensures.log in
     recorded (length bytes - (l.number + 1)) ∙ sym (l.invariant.written
-        ∙ ap (λ w. vec_items l.log ++ w) (written_here bytes l.number l.at (machine_of l.player l.state l.checkpoints) c.args.player.now.system l.player.system l.invariant.system (omega arith)))
+    ∙ ap (λ w. vec_items l.log ++ w) (written_here bytes l.number l.at (machine_of l.player l.state l.checkpoints) c.args.player.now.system l.player.system l.invariant.system (omega arith)))

@@ -1,6 +1,5 @@
 -- The system's bytes stand in front, and the records of the calls behind them.
 use Rattle.std.proofs.Common.{◌≡◌, ◌-◌, ◌++◌, length, take, Some, vec_items, sym, ap, ◌∙◌, arith}
-use Rattle.std.proofs.lemmas.Result.{IfOk-from_err}
 use Rattle.calls.specs.SystemBytes.{body_at, count_in, system_told, room_told}
 use Rattle.calls.proofs.Played.{opened_behind}
 use Rattle.calls.proofs.Traced.{behind_then}
@@ -8,27 +7,6 @@ use Rattle.calls.proofs.Validity.{both}
 use Rattle.logs.specs.Writing.{written_from, written_in}
 use Rattle.logs.proofs.WrittenLogs.{written_log}
 use Rattle.logs.proofs.writing.write_log.Goals as goal
-
-pub returns-in_err-extend_from_slice : goal.returns-in_err-extend_from_slice
-returns-in_err-extend_from_slice c =
-    let opened = c.in-Ok.ensures.left in
-    record {
-      log = IfOk-from_err c.from_residual.result _ c.from_residual.ensures.0;
-      right = IfOk-from_err c.from_residual.result _ c.from_residual.ensures.0;
-      behind = opened_behind c.args.bytes.now c.in-Ok.player c.args.state.now c.open_in_front.new.state c.args.checkpoints.now c.open_in_front.new.checkpoints c.args.work.now opened;
-    }
-
-pub returns-in_err-write_calls : goal.returns-in_err-write_calls
-returns-in_err-write_calls c =
-    let opened = c.in-Ok.ensures.left in
-    let r = c.from_residual-in_err-write_calls in
-    record {
-      log = IfOk-from_err r.result _ r.ensures.0;
-      right = IfOk-from_err r.result _ r.ensures.0;
-      behind = behind_then (ap (λ s. s.count) opened.rules)
-          (opened_behind c.args.bytes.now c.in-Ok.player c.args.state.now c.open_in_front.new.state c.args.checkpoints.now c.open_in_front.new.checkpoints c.args.work.now opened)
-          c.write_calls.ensures.behind;
-    }
 
 pub returns : goal.returns
 returns c =
