@@ -62,9 +62,6 @@ module _ (bytes : List ℕ) (small : (j : ℕ) → get_or bytes j 0 < 256) where
 
 -- what the checker answers, by what is told
 module _ (bytes : List ℕ) (small : (j : ℕ) → get_or bytes j 0 < 256) (state checkpoints work : ℕ) where
-  opened : (told : Told Acceptance) → told ≡ log_in bytes (opening_told bytes state checkpoints work) → (verdict : Told (Unit {0})) → opening_told bytes state checkpoints work ≡ verdict → told ≡ log_in bytes verdict
-  opened told e verdict is = e ∙ ap (log_in bytes) is
-
   taken : opening_told bytes state checkpoints work ≡ good tt → system_told bytes ≡ good tt
   taken e = (both (system_told bytes) (room_told (count_in bytes) state checkpoints work) tt e).0
 

@@ -32,8 +32,7 @@ pub fn write_log(
         return Ok(None);
     };
     let from = player.system_size();
-    let mut log = Vec::new(heap);
-    log.extend_from_slice(&bytes[0..from])?;
+    let mut log = bytes[..from].to_vec(heap)?;
     write_calls(&mut player, bytes, from, &mut log, state, checkpoints, work)?;
     Ok(Some(log))
 }

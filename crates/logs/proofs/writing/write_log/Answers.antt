@@ -1,5 +1,5 @@
 -- The system's bytes stand in front, and the records of the calls behind them.
-use Rattle.std.proofs.Common.{◌≡◌, ◌-◌, ◌++◌, length, take, Some, vec_items, sym, ap, ◌∙◌, arith}
+use Rattle.std.proofs.Common.{◌++◌, length, take, Some, vec_items, sym, ap, ◌∙◌}
 use Rattle.calls.specs.SystemBytes.{body_at, count_in, system_told, room_told}
 use Rattle.calls.proofs.Played.{opened_behind}
 use Rattle.calls.proofs.Traced.{behind_then}
@@ -14,8 +14,7 @@ returns c =
     let e = c.in-Ok.ensures in
     let opened = e.left in
     let from = c.system_size-from.ensures ∙ ap (λ r. body_at r.count) opened.rules in
-    let begins : c.system_size-from.result - 0 ≡ body_at (count_in bytes) = omega (arith, from) in
-    let front = c.in_ok-extend_from_slice.ensures.items ∙ ap (λ l. l ++ take (c.system_size-from.result - 0) bytes) c.new-log.ensures.items ∙ ap (λ n. take n bytes) begins in
+    let front = c.in_ok-log.ensures.items_if_clones_equal (λ x y e. e) ∙ ap (λ n. take n bytes) from in
     let items = c.in_ok-write_calls.ensures.log
     ∙ (λ i. front i ++ written_from (opened.rules i) bytes (length bytes) 0 (from i) (opened.machine i)) in
     let taken = (both (system_told bytes) (room_told (count_in bytes) (length c.args.state.now) (length c.args.checkpoints.now) (length c.args.work.now)) tt (sym e.answer)).0 in
