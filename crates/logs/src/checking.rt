@@ -73,6 +73,7 @@ fn check_calls(
 {
     let mut at = from;
     let mut calls = 0;
+    // Calls differ in length: where the next one begins is known behind this one.
     while at < bytes.len() {
         match check_call(player, bytes, calls, at, state, checkpoints, work)? {
             ControlFlow::Continue(next) => at = next,

@@ -53,6 +53,7 @@ fn write_calls(
 {
     let mut at = from;
     let mut number = 0;
+    // Calls differ in length: where the next one begins is known behind this one.
     while at < bytes.len() {
         match write_call(player, bytes, number, at, log, state, checkpoints, work)? {
             Some(next) => at = next,
