@@ -49,7 +49,7 @@ module _ (rules : Rules) (bytes : List ℕ) (k at : ℕ) (m : Machine) where
         ∙ ap (λ n. ended_told rules bytes k m n number place) (sym size)
 
 -- a refusal of another kind than `Kind` has another number
-pub other_number : (refusal : Refusal) → ((call : ℕ) → refusal ≡ Kind call → ⊥) → eqb (number_of refusal) 4 ≡ false
+other_number : (refusal : Refusal) → ((call : ℕ) → refusal ≡ Kind call → ⊥) → eqb (number_of refusal) 4 ≡ false
 other_number (Kind call) other = absurd (other call refl)
 other_number refusal other = refl
 

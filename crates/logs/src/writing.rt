@@ -1,7 +1,7 @@
 //! Writing a log of calls that are made.
-ghost use Rattle.std.specs.Prelude.{◌≡◌, ◌<◌, ◌++◌, length, IfSome, IfOk, vec_items, OnOk};
+ghost use Rattle.std.specs.Prelude.{◌≡◌, ◌<◌, [], ◌∷◌, ◌++◌, length, IfSome, IfOk, vec_items, OnOk, if◌then◌else◌, ◌==◌};
 ghost use Rattle.std.specs.Option.{option_map};
-ghost use Rattle.motion.specs.Refusals.{good};
+ghost use Rattle.motion.specs.Refusals.{good, number_of};
 ghost use Rattle.calls.specs.Checkpoints.{machine_of};
 ghost use Rattle.calls.specs.Machine.{rules_of};
 ghost use Rattle.calls.specs.Reports.{BehindSame, opening_told};
@@ -84,10 +84,7 @@ fn write_call(
     let call = match Call::decode(bytes, number, at) {
         Ok(call) => call,
         Err(refusal) => {
-            // Of a call of a kind that there is not, a log has the kind alone.
-            if let Refusal::Kind(_) = refusal {
-                log.push(bytes[at])?;
-            }
+            write_fault(bytes[at], refusal, log)?;
             return Ok(None);
         }
     };
@@ -100,4 +97,14 @@ fn write_call(
         }
         Err(_) => Ok(None),
     }
+}
+
+/// Appends the first byte of what is no call, if it is a kind that there is not; a log has nothing else of it.
+fn write_fault(first: u8, refusal: Refusal, log: &mut Vec<u8>) -> Result<(), AllocError>
+    ensures { OnOk result (log.new.items ≡ log.old.items ++ (if number_of refusal == 4 then first ∷ [] else [])) }
+{
+    if let Refusal::Kind(_) = refusal {
+        log.push(first)?;
+    }
+    Ok(())
 }

@@ -1,38 +1,23 @@
 -- A call's record is its bytes, and behind an answer its stamp.
-use Rattle.std.proofs.Common.{◌+◌, ◌++◌, vec_items, cond, [], ◌∷◌, get_or, append-nil, sym, ap, ◌∙◌, append_assoc, arith}
+use Rattle.std.proofs.Common.{◌+◌, ◌++◌, vec_items, sym, ap, ◌∙◌, append_assoc, arith}
 use Rattle.words.specs.Bytes.{bytes_of}
 use Rattle.motion.specs.Refusals.{refused, number_of, place_of}
 use Rattle.calls.specs.Calls.{bytes_of_call}
 use Rattle.calls.specs.Checkpoints.{machine_of}
 use Rattle.calls.specs.Machine.{rules_of, provided, obey}
 use Rattle.logs.specs.Logs.{stamp}
-use Rattle.logs.specs.Writing.{written_from, fault_written}
-use Rattle.logs.proofs.Found.{other_number}
+use Rattle.logs.specs.Writing.{written_from}
 use Rattle.logs.proofs.Recorded.{written_call, written_refused, written_answered}
 use Rattle.logs.proofs.writing.write_call.Goals as goal
 
-pub returns-in_ok-push-in-Err-clause-log : goal.returns-in_ok-push-in-Err-clause-log
-returns-in_ok-push-in-Err-clause-log c =
+pub returns-in-Err-clause-log : goal.returns-in-Err-clause-log
+returns-in-Err-clause-log c =
     let player = c.args.player.now in
-    let bytes = c.args.bytes.now in
-    let at = c.args.at in
     let m = machine_of player c.args.state.now c.args.checkpoints.now in
     let e = c.in-Err.refusal in
-    λ most. c.in_ok-push-in-Err.ensures.items
-    ∙ ap (λ l. vec_items c.args.log.now ++ l) (sym (written_call (rules_of player.system) bytes c.args.number at m c.requires.at most
-    (refused (number_of e) (place_of e)) (sym c.in-Err.ensures.answer) ∙ ap (λ r. fault_written bytes at (number_of r)) c.in-Kind.is))
-
-pub returns-in_default-clause-log : goal.returns-in_default-clause-log
-returns-in_default-clause-log c =
-    let player = c.args.player.now in
-    let bytes = c.args.bytes.now in
-    let at = c.args.at in
-    let m = machine_of player c.args.state.now c.args.checkpoints.now in
-    let e = c.in-Err.refusal in
-    let log = vec_items c.args.log.now in
-    λ most. sym (ap (λ l. log ++ l) (written_call (rules_of player.system) bytes c.args.number at m c.requires.at most
-    (refused (number_of e) (place_of e)) (sym c.in-Err.ensures.answer) ∙ ap (λ b. cond b (get_or bytes at 0 ∷ []) []) (other_number e c.in_default.not-Kind))
-    ∙ append-nil log)
+    λ most. c.in_ok-write_fault-in-Err.ensures
+    ∙ ap (λ l. vec_items c.args.log.now ++ l) (sym (written_call (rules_of player.system) c.args.bytes.now c.args.number c.args.at m c.requires.at most
+    (refused (number_of e) (place_of e)) (sym c.in-Err.ensures.answer)))
 
 pub returns-in-Err-answer-clause-log : goal.returns-in-Err-answer-clause-log
 returns-in-Err-answer-clause-log c =
