@@ -2,8 +2,7 @@
 
 #![tactic(auto)]
 
-use anyhow::anyhow;
-use input::{Words, behind_first, read_input};
+use input::{InputError, Request, Words, behind_first, finish, read_input};
 use logs::check_log;
 use motion::Refusal;
 use std::env;
@@ -16,7 +15,7 @@ each call with the time and the check sum after it. Makes the calls anew, and sa
 the refusal that ended it if one did, or `refused NUMBER at PLACE` for the first fault, with exit status 1.";
 
 /// Checks the log in the files of these names, and prints the verdict. Gives the refusal, if it is refused.
-fn check(rt: &HostRuntime, names: &[String]) -> anyhow::Result<Option<Refusal>> {
+fn check(rt: &HostRuntime, names: &[String]) -> Result<Option<Refusal>, InputError> {
     let bytes = read_input(rt, names)?;
     let mut words = Words::new(rt.alloc())?;
     let verdict = check_log(
@@ -38,31 +37,21 @@ fn check(rt: &HostRuntime, names: &[String]) -> anyhow::Result<Option<Refusal>> 
 }
 
 /// Does what the command line asks for.
-fn start(rt: &HostRuntime) -> anyhow::Result<Option<Refusal>> {
+fn start(rt: &HostRuntime) -> Result<Option<Refusal>, InputError> {
     let args: Vec<String> = env::args(rt)?.collect(rt.alloc())?;
-    let names = behind_first(args.as_slice());
-    if let Some(first) = names.first() {
-        if first.as_str() == "--help" {
+    match Request::read(behind_first(args.as_slice())) {
+        Request::Help => {
             println!(rt; "{HELP}")?;
-            return Ok(None);
+            Ok(None)
         }
-        if first.as_str().starts_with("--") {
-            return Err(anyhow!(format!(in rt.alloc();
-                "there is no option {first} (check_log --help tells more)"
-            )?));
-        }
+        Request::ByOption(option, _) => Err(InputError::NoOption {
+            option: option.clone()?,
+            program: "check_log",
+        }),
+        Request::Files(names) => check(rt, names),
     }
-    check(rt, names)
 }
 
 fn main(rt: HostRuntime) -> ExitCode {
-    match start(&rt) {
-        Ok(None) => ExitCode::SUCCESS,
-        Ok(Some(_)) => ExitCode::FAILURE,
-        Err(error) => {
-            // Where even this cannot be written, the exit status is all that can tell.
-            let _told = eprintln!(rt; "check_log: {error}").is_ok();
-            ExitCode::FAILURE
-        }
-    }
+    finish(&rt, "check_log", start(&rt))
 }

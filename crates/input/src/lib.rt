@@ -1,38 +1,97 @@
-//! What the programs share: reading their input, and the words that they lend.
+//! What the programs on files share: what their command line asks for, their input, the words that they lend, and their end.
 
 #![tactic(auto)]
 
 ghost use Rattle.std.specs.Prelude.{◌≡◌, drop, IfOk, vec_len};
 
-use anyhow::anyhow;
 use std::alloc::{AllocError, Global};
-use std::fs;
 use std::io::Read;
+use std::process::ExitCode;
+use std::{fmt, fs, io};
+use thiserror::Error;
+
+/// What the words of a command line ask for.
+pub enum Request<'a> {
+    /// To tell what the program does.
+    Help,
+    /// To do what this option is for, with the words behind it.
+    ByOption(&'a String, &'a [String]),
+    /// To work on the files of these names, or on standard input where there are none.
+    Files(&'a [String]),
+}
+
+/// Why a program on files has no answer. It holds whole names, however long they are.
+#[derive(Debug, Drop, Error)]
+pub enum InputError {
+    #[error("there is no option {option} ({program} --help tells more)")]
+    NoOption {
+        option: String,
+        program: &'static str,
+    },
+    #[error("cannot read standard input: {0}")]
+    StandardInput(io::Error),
+    #[error("cannot read {name}: {cause}")]
+    File { name: String, cause: io::Error },
+    #[error(transparent)]
+    Io(#[from] io::Error),
+    #[error(transparent)]
+    Memory(#[from(alloc)] AllocError),
+}
 
 /// Gives the words behind the first, which is the program's name.
 pub fn behind_first(args: &[String]) -> &[String]
     ensures { result.now ≡ drop 1 args.now }
 {
-    if args.is_empty() { args } else { &args[1..] }
+    match args {
+        [_, rest @ ..] => rest,
+        [] => args,
+    }
+}
+
+impl Request<'_> {
+    /// Reads the words behind the program's name.
+    pub fn read(words: &[String]) -> Request {
+        match words {
+            [first, ..] if first.as_str() == "--help" => Request::Help,
+            [first, rest @ ..] if first.as_str().starts_with("--") => Request::ByOption(first, rest),
+            _ => Request::Files(words),
+        }
+    }
 }
 
 /// Reads the files of these names one after the other as one row of bytes, or standard input where no file is named.
-pub fn read_input(rt: &HostRuntime, names: &[String]) -> anyhow::Result<Vec<u8>> {
+pub fn read_input(rt: &HostRuntime, names: &[String]) -> Result<Vec<u8>, InputError> {
     let mut bytes = Vec::new(rt.alloc());
     if names.is_empty() {
-        if let Err(error) = rt.stdin().read_to_end(&mut bytes) {
-            return Err(anyhow!(format!(in rt.alloc(); "cannot read standard input: {error}")?));
-        }
+        rt.stdin().read_to_end(&mut bytes).map_err(InputError::StandardInput)?;
     }
     for name in names {
-        match fs::read(rt, name.as_str()) {
-            Ok(part) => bytes.extend_from_slice(part.as_slice())?,
-            Err(error) => {
-                return Err(anyhow!(format!(in rt.alloc(); "cannot read {name}: {error}")?));
-            }
-        }
+        let part = fs::read(rt, name.as_str()).try_map_err(|cause| {
+            Ok(InputError::File {
+                name: name.clone()?,
+                cause,
+            })
+        })?;
+        bytes.extend_from_slice(part.as_slice())?;
     }
     Ok(bytes)
+}
+
+/// Gives the exit status of a program that ends so: success with no refusal. An error is told under the program's name.
+pub fn finish<R: Drop, E: fmt::Display + Drop>(
+    rt: &HostRuntime,
+    program: &str,
+    end: Result<Option<R>, E>,
+) -> ExitCode {
+    match end {
+        Ok(None) => ExitCode::SUCCESS,
+        Ok(Some(_)) => ExitCode::FAILURE,
+        Err(error) => {
+            // Where even this cannot be written, the exit status is all that can tell.
+            let _told = eprintln!(rt; "{program}: {error}").is_ok();
+            ExitCode::FAILURE
+        }
+    }
 }
 
 /// Words that suffice for every system.

@@ -1,9 +1,0 @@
--- Want of memory makes none.
-use Rattle.std.proofs.lemmas.Result.{IfOk-from_err}
-use Rattle.input.proofs.Words.new.Goals as goal
-
-pub returns-in_err-vec-2 : goal.returns-in_err-vec-2
-returns-in_err-vec-2 c = IfOk-from_err c.from_residual-in_err-vec-2.result _ c.from_residual-in_err-vec-2.ensures.0
-
-pub returns-in_err-vec-3 : goal.returns-in_err-vec-3
-returns-in_err-vec-3 c = IfOk-from_err c.from_residual-in_err-vec-3.result _ c.from_residual-in_err-vec-3.ensures.0

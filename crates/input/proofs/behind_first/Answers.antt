@@ -1,6 +1,0 @@
--- All behind the first is the rest.
-use Rattle.std.proofs.lemmas.List.{take_rest}
-use Rattle.input.proofs.behind_first.Goals as goal
-
-pub returns-else-is_empty : goal.returns-else-is_empty
-returns-else-is_empty c = take_rest c.args.args.now 1
