@@ -2,7 +2,9 @@
 
 #![tactic(auto)]
 
-ghost use Rattle.std.specs.Prelude.{◌≡◌, drop, IfOk, vec_len};
+ghost use Rattle.std.specs.Prelude.{◌≡◌, ◌≤◌, ◌↔◌, drop, IfOk, vec_len, Ok, None};
+ghost use Rattle.std.specs.Process.{exit_status};
+ghost use Rattle.input.specs.Requests.{Asks};
 
 use std::alloc::{AllocError, Global};
 use std::io::Read;
@@ -31,7 +33,10 @@ pub enum InputError {
     #[error("cannot read standard input: {0}")]
     StandardInput(io::Error),
     #[error("cannot read {name}: {cause}")]
-    File { name: String, cause: io::Error },
+    File {
+        name: String,
+        cause: io::Error,
+    },
     #[error(transparent)]
     Io(#[from] io::Error),
     #[error(transparent)]
@@ -50,10 +55,12 @@ pub fn behind_first(args: &[String]) -> &[String]
 
 impl Request<'_> {
     /// Reads the words behind the program's name.
-    pub fn read(words: &[String]) -> Request {
+    pub fn read(words: &[String]) -> Request
+        ensures { Asks words.now result }
+    {
         match words {
-            [first, ..] if first.as_str() == "--help" => Request::Help,
-            [first, rest @ ..] if first.as_str().starts_with("--") => Request::ByOption(first, rest),
+            [word, ..] if word.as_str() == "--help" => Request::Help,
+            [word, rest @ ..] if word.as_str().starts_with("--") => Request::ByOption(word, rest),
             _ => Request::Files(words),
         }
     }
@@ -63,7 +70,9 @@ impl Request<'_> {
 pub fn read_input(rt: &HostRuntime, names: &[String]) -> Result<Vec<u8>, InputError> {
     let mut bytes = Vec::new(rt.alloc());
     if names.is_empty() {
-        rt.stdin().read_to_end(&mut bytes).map_err(InputError::StandardInput)?;
+        rt.stdin()
+            .read_to_end(&mut bytes)
+            .map_err(InputError::StandardInput)?;
     }
     for name in names {
         let part = fs::read(rt, name.as_str()).try_map_err(|cause| {
@@ -77,12 +86,15 @@ pub fn read_input(rt: &HostRuntime, names: &[String]) -> Result<Vec<u8>, InputEr
     Ok(bytes)
 }
 
-/// Gives the exit status of a program that ends so: success with no refusal. An error is told under the program's name.
+/// Gives the exit status of a program that ends so: 0 where nothing is refused, else 1. An error is told under its name.
 pub fn finish<R: Drop, E: fmt::Display + Drop>(
     rt: &HostRuntime,
     program: &str,
     end: Result<Option<R>, E>,
-) -> ExitCode {
+) -> ExitCode
+    ensures success { exit_status result ≡ 0 ↔ end ≡ Ok None }
+    ensures failure { exit_status result ≤ 1 }
+{
     match end {
         Ok(None) => ExitCode::SUCCESS,
         Ok(Some(_)) => ExitCode::FAILURE,
