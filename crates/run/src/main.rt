@@ -2,7 +2,9 @@
 
 #![tactic(auto)]
 
-use anyhow::anyhow;
+ghost use Rattle.std.specs.Prelude.{◌<◌, IfOk, length};
+
+use anyhow::{Context, Result, bail};
 use distance::Softening;
 use motion::{System, Turn};
 use std::env;
@@ -14,12 +16,11 @@ A CALL is one of: forward STEPS, back STEPS, read BODY AXIS.
 Moves two bodies of masses 2 and 1, softening 2^20, at rest on the first axis at 0 and 2^60, and prints the
 time after each call, with place and drive where a body is read.";
 
-/// What the operator asks for: steps, steps back, or a body and an axis to read.
+/// What the operator asks for: to make a turn, or to read a body along an axis.
 #[derive(Clone, Copy)]
 enum Call {
-    Forward(u32),
-    Back(u32),
-    Read(usize, usize),
+    Turn(Turn),
+    Read { body: u32, axis: u32 },
 }
 
 /// The built-in system: two bodies of masses 2 and 1, with the least softening.
@@ -28,117 +29,84 @@ fn pair() -> Option<System> {
     System::new(Softening::new(Softening::LEAST)?, &masses).ok()
 }
 
-fn read_number(text: &str) -> anyhow::Result<u32> {
-    let Ok(number) = text.parse::<u32>() else {
-        return Err(anyhow!("a number is wanted, 0 to 4294967295; run --help tells more"));
-    };
-    Ok(number)
+fn read_number(text: &str) -> Result<u32> {
+    // Without `ok`, what `parse` has to say would be told too.
+    let number = text.parse().ok();
+    number.context("a number is wanted, 0 to 4294967295; run --help tells more")
 }
 
-/// Reads the call that stands first, and tells how many words it has.
-fn read_call(args: &[String]) -> anyhow::Result<(Call, usize)> {
-    if args.len() < 2 {
-        return Err(anyhow!("a call has a word and a number; run --help tells more"));
+/// Reads the call that stands first, and gives the words behind it.
+fn read_call(words: &[String]) -> Result<(Call, &[String])>
+    ensures { IfOk result (λ r. length r.1.now < length words.now) }
+{
+    let [word, number, rest @ ..] = words else {
+        bail!("a call has a word and a number; run --help tells more");
+    };
+    let number = read_number(number.as_str())?;
+    match (word.as_str(), rest) {
+        ("forward", _) => Ok((Call::Turn(Turn::Forward(u64::from(number))), rest)),
+        ("back", _) => Ok((Call::Turn(Turn::Back(u64::from(number))), rest)),
+        ("read", [axis, rest @ ..]) => {
+            let axis = read_number(axis.as_str())?;
+            Ok((Call::Read { body: number, axis }, rest))
+        }
+        _ => bail!("not a call: run --help tells which there are"),
     }
-    let word = args[0].as_str();
-    let number = read_number(args[1].as_str())?;
-    if word == "forward" {
-        return Ok((Call::Forward(number), 2));
-    }
-    if word == "back" {
-        return Ok((Call::Back(number), 2));
-    }
-    if word == "read" && args.len() > 2 {
-        let axis = read_number(args[2].as_str())?;
-        return Ok((Call::Read(number as usize, axis as usize), 3));
-    }
-    Err(anyhow!("not a call: run --help tells which there are"))
 }
 
-/// Makes a turn, and gives the time after it.
-fn move_by(
-    system: &System,
-    time: i64,
-    change: i64,
-    state: &mut [u64],
-    work: &mut [u64],
-) -> anyhow::Result<i64> {
-    let Some(after) = time.checked_add(change) else {
-        return Err(anyhow!("the time is out of range"));
-    };
-    let steps = change.unsigned_abs();
-    let turn = if change < 0 {
-        Turn::Back(steps)
-    } else {
-        Turn::Forward(steps)
-    };
-    if system.turn(turn, state, work).is_err() {
-        return Err(anyhow!("the turn is refused"));
+/// The time after a turn, if it is in range.
+fn time_after(time: i64, turn: Turn) -> Option<i64> {
+    match turn {
+        Turn::Forward(steps) => time.checked_add_unsigned(steps),
+        Turn::Back(steps) => time.checked_sub_unsigned(steps),
     }
-    Ok(after)
 }
 
 /// Place and drive of a body along an axis, if there are such.
-fn place_and_drive(state: &[u64], body: usize, axis: usize) -> Option<(i64, i64)> {
-    if body >= 2 || axis >= 3 || state.len() < 12 {
-        return None;
-    }
-    let at = 6 * body + 2 * axis;
-    Some((read_signed(state[at]), read_signed(state[at + 1])))
+fn place_and_drive(state: &[u64], body: u32, axis: u32) -> Option<(i64, i64)> {
+    let (bodies, _) = state.as_chunks::<6>();
+    let (axes, _) = bodies.get(usize::try_from(body).ok()?)?.as_chunks::<2>();
+    let [place, drive] = axes.get(usize::try_from(axis).ok()?)?;
+    Some((read_signed(*place), read_signed(*drive)))
 }
 
-fn run(rt: &HostRuntime, system: &System, args: &[String]) -> anyhow::Result<()> {
+fn run(rt: &HostRuntime, system: &System, mut words: &[String]) -> Result<()> {
     let mut state = [0; 12];
     state[6] = 1 << 60;
     let mut work = [0; 1];
     let mut time = 0;
-    let mut at = 1;
-    for _ in 1..args.len() {
-        if at >= args.len() {
-            break;
-        }
-        let (call, words) = read_call(&args[at..])?;
-        at = at.saturating_add(words);
+    while !words.is_empty() {
+        let (call, rest) = read_call(words)?;
+        words = rest;
         match call {
-            Call::Forward(steps) => time = move_by(
-                system,
-                time,
-                i64::from(steps),
-                &mut state,
-                &mut work,
-            )?,
-            Call::Back(steps) => time = move_by(
-                system,
-                time,
-                -i64::from(steps),
-                &mut state,
-                &mut work,
-            )?,
-            Call::Read(body, axis) => {
-                let Some((place, drive)) = place_and_drive(&state, body, axis) else {
-                    return Err(anyhow!("no such body or axis"));
-                };
+            Call::Turn(turn) => {
+                time = time_after(time, turn).context("the time is out of range")?;
+                system
+                    .turn(turn, &mut state, &mut work)
+                    .ok()
+                    .context("the turn is refused")?;
+                println!(rt; "time {time}")?;
+            }
+            Call::Read { body, axis } => {
+                let read = place_and_drive(&state, body, axis);
+                let (place, drive) = read.context("no such body or axis")?;
                 println!(rt; "time {time} place {place} drive {drive}")?;
-                continue;
             }
         }
-        println!(rt; "time {time}")?;
     }
     Ok(())
 }
 
-fn start(rt: &HostRuntime) -> anyhow::Result<()> {
-    let args: Vec<String> = env::args(rt)?.collect(rt.alloc())?;
-    if args.len() < 2 || args[1].as_str() == "--help" {
-        println!(rt; "{HELP}")?;
-        return Ok(());
+fn main(rt: HostRuntime) -> Result<()> {
+    let args: Vec<String> = env::args(&rt)?.collect(rt.alloc())?;
+    match args.as_slice() {
+        [_, words @ ..] if words.first().is_some_and(|word| word.as_str() != "--help") => {
+            let system = pair().context("the system is out of range")?;
+            run(&rt, &system, words)
+        }
+        _ => {
+            println!(rt; "{HELP}")?;
+            Ok(())
+        }
     }
-    let Some(system) = pair() else {
-        return Err(anyhow!("the system is out of range"));
-    };
-    run(rt, &system, args.as_slice())
-}
-
-fn main(rt: HostRuntime) -> anyhow::Result<()> {
-    start(&rt)
 }

@@ -2,12 +2,14 @@
 
 #![tactic(auto)]
 
-use anyhow::anyhow;
+use anyhow::{Context, Result, bail};
 use distance::Softening;
 use motion::{System, Turn, check_sum};
+use rand_core::{Rng, SeedableRng};
+use rand_xoshiro::SplitMix64;
 use std::alloc::Global;
-use std::env;
 use std::time::{Duration, Instant};
+use std::{array, env};
 use words::Mass;
 
 const HELP: &str = "usage: soak STEPS SEED [words]
@@ -24,66 +26,61 @@ struct Opening {
 }
 
 /// What the command line asks for.
-#[derive(Drop)]
+#[derive(Clone, Copy)]
 struct Request {
     steps: u64,
     seed: u64,
     words: bool,
 }
 
-/// Gives the next random word (splitmix64).
-fn draw(seed: &mut u64) -> u64 {
-    *seed = seed.wrapping_add(0x9e37_79b9_7f4a_7c15);
-    let a = (*seed ^ (*seed >> 30)).wrapping_mul(0xbf58_476d_1ce4_e5b9);
-    let b = (a ^ (a >> 27)).wrapping_mul(0x94d0_49bb_1331_11eb);
-    b ^ (b >> 31)
+/// Gives any mass.
+fn random_mass(random: &mut SplitMix64) -> Option<Mass> {
+    Mass::new(1 + random.next_u64() % 1023)
 }
 
-/// Makes a random system whose bodies are anywhere, with momenta of 48 bits.
-fn random_opening(heap: Global, mut seed: u64) -> anyhow::Result<Opening> {
+/// Gives a position anywhere, and a momentum of 48 bits.
+fn random_words(random: &mut SplitMix64) -> [u64; 2] {
+    let position = random.next_u64();
+    let momentum = random.next_u64().cast_signed() >> 16;
+    [position, momentum.cast_unsigned()]
+}
+
+/// Makes a random system with its opening state.
+fn random_opening(heap: Global, seed: u64) -> Result<Opening> {
+    let mut random = SplitMix64::seed_from_u64(seed);
     let span = Softening::MOST - Softening::LEAST + 1;
-    let Some(softening) = Softening::new(Softening::LEAST + draw(&mut seed) % span) else {
-        return Err(anyhow!("a softening out of range"));
-    };
-    let mut masses = Vec::new(heap);
-    for _ in 0..System::MOST_BODIES {
-        let Some(mass) = Mass::new(1 + draw(&mut seed) % 1023) else {
-            return Err(anyhow!("a mass out of range"));
-        };
-        masses.push(mass)?;
-    }
-    let mut state = Vec::new(heap);
-    for _ in 0..3 * System::MOST_BODIES {
-        state.push(draw(&mut seed))?;
-        state.push((draw(&mut seed).cast_signed() >> 16).cast_unsigned())?;
-    }
-    let Ok(system) = System::new(softening, masses.as_slice()) else {
-        return Err(anyhow!("a system out of range"));
-    };
+    let softening = Softening::new(Softening::LEAST + random.next_u64() % span).context(
+        "a softening out of range",
+    )?;
+    let masses: [Mass; System::MOST_BODIES] = array::try_from_fn(|_| {
+        random_mass(&mut random).context("a mass out of range")
+    })?;
+    let state = (0..3 * System::MOST_BODIES)
+        .flat_map(|_| random_words(&mut random))
+        .collect(heap)?;
+    let system = System::new(softening, &masses)
+        .ok()
+        .context("a system out of range")?;
     Ok(Opening { system, state })
 }
 
-fn read_number(text: &str) -> anyhow::Result<u64> {
-    let Ok(number) = text.parse::<u64>() else {
-        return Err(anyhow!("STEPS and SEED are numbers below 2^64 (soak --help tells more)"));
-    };
-    Ok(number)
+fn read_number(text: &str) -> Result<u64> {
+    // Without `ok`, what `parse` has to say would be told too.
+    let number = text.parse().ok();
+    number.context("STEPS and SEED are numbers below 2^64 (soak --help tells more)")
 }
 
-/// Reads the command line; nothing where help is asked for.
-fn read_request(rt: &HostRuntime) -> anyhow::Result<Option<Request>> {
-    let args: Vec<String> = env::args(rt)?.collect(rt.alloc())?;
-    let count = args.len();
-    if count == 2 && args[1].as_str() == "--help" {
-        return Ok(None);
-    }
-    let words = count == 4 && args[3].as_str() == "words";
-    if count == 3 || words {
-        let steps = read_number(args[1].as_str())?;
-        let seed = read_number(args[2].as_str())?;
-        return Ok(Some(Request { steps, seed, words }));
-    }
-    Err(anyhow!("usage: soak STEPS SEED [words] (soak --help tells more)"))
+/// Reads the words of the command line; nothing where help is asked for.
+fn read_request(args: &[String]) -> Result<Option<Request>> {
+    let (steps, seed, words) = match args {
+        [_, word] if word.as_str() == "--help" => return Ok(None),
+        [_, steps, seed] => (steps, seed, false),
+        [_, steps, seed, word] if word.as_str() == "words" => (steps, seed, true),
+        _ => bail!("usage: soak STEPS SEED [words] (soak --help tells more)"),
+    };
+    let steps = read_number(steps.as_str())?;
+    let seed = read_number(seed.as_str())?;
+    Ok(Some(Request { steps, seed, words }))
 }
 
 /// Makes a turn and tells how long it took.
@@ -93,13 +90,11 @@ fn timed_turn(
     turn: Turn,
     state: &mut [u64],
     work: &mut [u64],
-) -> anyhow::Result<Duration> {
+) -> Result<Duration> {
     let start = Instant::now(rt)?;
     let answer = system.turn(turn, state, work);
     let time = start.elapsed(rt)?;
-    if answer.is_err() {
-        return Err(anyhow!("the turn was refused"));
-    }
+    answer.ok().context("the turn was refused")?;
     Ok(time)
 }
 
@@ -110,7 +105,7 @@ fn soak(
     system: &System,
     state: &mut [u64],
     work: &mut [u64],
-) -> anyhow::Result<Duration> {
+) -> Result<Duration> {
     let opening = check_sum(state);
     println!(rt; "opening {opening:016x}")?;
     let there = timed_turn(rt, system, Turn::Forward(request.steps), state, work)?;
@@ -124,14 +119,12 @@ fn soak(
     let back = timed_turn(rt, system, Turn::Back(request.steps), state, work)?;
     let after = check_sum(state);
     println!(rt; "after {after:016x}")?;
-    let Some(time) = there.checked_add(back) else {
-        return Err(anyhow!("the time is out of range"));
-    };
-    Ok(time)
+    there.checked_add(back).context("the time is out of range")
 }
 
-fn run(rt: &HostRuntime) -> anyhow::Result<()> {
-    let Some(request) = read_request(rt)? else {
+fn run(rt: &HostRuntime) -> Result<()> {
+    let args: Vec<String> = env::args(rt)?.collect(rt.alloc())?;
+    let Some(request) = read_request(args.as_slice())? else {
         println!(rt; "{HELP}")?;
         return Ok(());
     };
@@ -145,7 +138,7 @@ fn run(rt: &HostRuntime) -> anyhow::Result<()> {
         state.as_mut_slice(),
         work.as_mut_slice(),
     )?;
-    if state.as_slice() == opening.as_slice() {
+    if state == opening {
         println!(rt; "the words of the opening are back")?;
     } else {
         println!(rt; "the words of the opening are not back")?;
@@ -154,13 +147,13 @@ fn run(rt: &HostRuntime) -> anyhow::Result<()> {
 }
 
 /// Tells on standard error how long the steps took, in milliseconds, and each of them, in nanoseconds.
-fn tell_time(rt: &HostRuntime, steps: u64, time: Duration) -> anyhow::Result<()> {
+fn tell_time(rt: &HostRuntime, steps: u64, time: Duration) -> Result<()> {
     let whole = time.as_millis();
     let each = time.as_nanos().checked_div(u128::from(steps)).unwrap_or(0);
     eprintln!(rt; "{steps} steps in {whole} ms, {each} ns a step")?;
     Ok(())
 }
 
-fn main(rt: HostRuntime) -> anyhow::Result<()> {
+fn main(rt: HostRuntime) -> Result<()> {
     run(&rt)
 }
