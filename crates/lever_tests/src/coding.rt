@@ -5,7 +5,7 @@ use motion::Refusal;
 use std::process::Abort;
 use std::test::*;
 
-/// Gives a call with any numbers.
+/// Gives a call with any numbers. Each `as` is of a number below its type's end, as the check proves.
 fn any_call(random: &mut Random) -> Call {
     match random.below(5) {
         0 => Call::Forward(random.below(1 << 32) as u32),
@@ -53,9 +53,7 @@ fn check_there_and_back(
         Ok(call),
         "call {number}"
     );
-    let Some((_, cut)) = bytes.as_slice().split_last() else {
-        return Err(Fail::new("no bytes"));
-    };
+    let (_, cut) = bytes.as_slice().split_last().ok_or("no bytes")?;
     assert_eq!(rt;
         Call::decode(cut, number, at),
         Err(Refusal::Length(cut.len())),
@@ -66,7 +64,7 @@ fn check_there_and_back(
 
 #[test]
 fn random_calls_come_back(rt: HostRuntime) -> Result<(), Fail> {
-    let mut random = Random { seed: 11 };
+    let mut random = Random::new(11);
     let mut bytes = Vec::new(rt.alloc());
     for number in 0..2000 {
         let call = any_call(&mut random);

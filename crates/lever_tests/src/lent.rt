@@ -14,11 +14,7 @@ pub struct Lent {
 }
 
 fn anything(heap: Global, random: &mut Random, count: usize) -> Result<Vec<u64>, AllocError> {
-    let mut words = Vec::new(heap);
-    for _ in 0..count {
-        words.push(random.draw())?;
-    }
-    Ok(words)
+    (0..count).map(|_| random.draw()).collect(heap)
 }
 
 /// Gives the words of sixteen checkpoints of so many bodies.
@@ -28,7 +24,7 @@ pub fn checkpoints_size(count: u8) -> usize {
 
 impl Lent {
     pub fn new(heap: Global) -> Result<Lent, AllocError> {
-        let mut random = Random { seed: 5 };
+        let mut random = Random::new(5);
         Ok(Lent {
             state: anything(heap, &mut random, 390)?,
             checkpoints: anything(heap, &mut random, 6200)?,
@@ -96,10 +92,7 @@ impl Lent {
     /// Adds up the momenta of so many bodies along an axis.
     pub fn momentum(&self, count: u8, axis: u8) -> u64 {
         let words = self.state.iter().take(6 * usize::from(count));
-        let mut sum = 0u64;
-        for word in words.skip(2 * usize::from(axis) + 1).step_by(6) {
-            sum = sum.wrapping_add(*word);
-        }
-        sum
+        let momenta = words.skip(2 * usize::from(axis) + 1).step_by(6);
+        momenta.fold(0, |sum: u64, momentum| sum.wrapping_add(*momentum))
     }
 }

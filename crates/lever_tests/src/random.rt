@@ -2,6 +2,8 @@
 ghost use Rattle.std.specs.Prelude.{◌<◌, ◌≤◌};
 
 use calls::Call;
+use rand_core::{Rng, SeedableRng};
+use rand_xoshiro::SplitMix64;
 
 /// Words at which something turns: ends of the range, and the unit of separations.
 const EDGES: [u64; 11] = [
@@ -18,18 +20,21 @@ const EDGES: [u64; 11] = [
     u64::MAX,
 ];
 
-/// A source of random words (splitmix64).
+/// A source of random words. Its `as` lose nothing, since the check proves the bounds; `try_from` would need an `unwrap` at each.
 #[derive(Drop)]
 pub struct Random {
-    pub seed: u64,
+    source: SplitMix64,
 }
 
 impl Random {
+    pub fn new(seed: u64) -> Random {
+        Random {
+            source: SplitMix64::seed_from_u64(seed),
+        }
+    }
+
     pub fn draw(&mut self) -> u64 {
-        self.seed = self.seed.wrapping_add(0x9e37_79b9_7f4a_7c15);
-        let a = (self.seed ^ (self.seed >> 30)).wrapping_mul(0xbf58_476d_1ce4_e5b9);
-        let b = (a ^ (a >> 27)).wrapping_mul(0x94d0_49bb_1331_11eb);
-        b ^ (b >> 31)
+        self.source.next_u64()
     }
 
     pub fn below(&mut self, bound: u64) -> u64

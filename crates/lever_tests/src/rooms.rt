@@ -86,8 +86,8 @@ fn short_slices_are_refused(rt: HostRuntime) -> Result<(), Fail> {
     let heap = rt.alloc();
     for room in EXACT {
         let mut short = room;
-        if room.work > 0 {
-            short.work = room.work - 1;
+        if let Some(work) = room.work.checked_sub(1) {
+            short.work = work;
             check_room(
                 &rt,
                 heap,

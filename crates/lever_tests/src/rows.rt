@@ -30,14 +30,14 @@ struct Lesson {
 impl Lesson {
     /// Tells what a read should answer, if there is such a body and axis.
     fn reading(&self, body: u8, axis: u8) -> Option<Answer> {
-        if body >= self.count || axis > 2 {
-            return None;
-        }
-        let at = 6 * usize::from(body) + 2 * usize::from(axis);
+        let (bodies, _) = self.lent.state.as_slice().as_chunks::<6>();
+        let bodies = bodies.get(..usize::from(self.count))?;
+        let (axes, _) = bodies.get(usize::from(body))?.as_chunks::<2>();
+        let [position, momentum] = axes.get(usize::from(axis))?;
         Some(Answer::Reading {
             time: self.time,
-            position: self.lent.state.get(at)?.cast_signed(),
-            momentum: self.lent.state.get(at + 1)?.cast_signed(),
+            position: position.cast_signed(),
+            momentum: momentum.cast_signed(),
         })
     }
 
@@ -46,18 +46,13 @@ impl Lesson {
         let time = match call {
             Call::Forward(steps) => self.time.wrapping_add(i64::from(steps)),
             Call::Back(steps) => self.time.wrapping_sub(i64::from(steps)),
-            Call::Mark(mark) => {
-                if mark > 15 {
-                    return Err(Refusal::Checkpoint(number));
-                }
-                self.time
-            }
-            Call::GoTo(mark) => {
-                let Some(kept) = self.kept.get(&mark) else {
-                    return Err(Refusal::Checkpoint(number));
-                };
-                kept.time
-            }
+            Call::Mark(mark) if mark > 15 => return Err(Refusal::Checkpoint(number)),
+            Call::Mark(_) => self.time,
+            Call::GoTo(mark) => self
+                .kept
+                .get(&mark)
+                .ok_or(Refusal::Checkpoint(number))?
+                .time,
             Call::Read { body, axis } => {
                 return self.reading(body, axis).ok_or(Refusal::Absent(number));
             }
@@ -128,9 +123,8 @@ fn open(rt: &impl Abort, heap: Global, seed: u64, sky: &Sky) -> Result<Lesson, F
     let mut lent = before.clone()?;
     let player = lent.open(sky.bytes(heap)?.as_slice())?;
     assert!(rt; lent.state.starts_with(sky.words(heap)?.as_slice()));
-    for word in lent.checkpoints.iter().take(checkpoints_size(count)) {
-        assert_eq!(rt; *word, 0);
-    }
+    let mut checkpoints = lent.checkpoints.iter().take(checkpoints_size(count));
+    assert!(rt; checkpoints.all(|word| *word == 0));
     lent.check_behind(rt, &before, count);
     Ok(Lesson {
         seed,
@@ -144,7 +138,7 @@ fn open(rt: &impl Abort, heap: Global, seed: u64, sky: &Sky) -> Result<Lesson, F
 
 /// Makes a random row of calls to a random system, and looks at each call and at the end.
 fn play(rt: &impl Abort, heap: Global, seed: u64) -> Result<(), Fail> {
-    let mut random = Random { seed };
+    let mut random = Random::new(seed);
     let sky = Sky::random(heap, &mut random)?;
     let mut lesson = open(rt, heap, seed, &sky)?;
     let opened = lesson.lent.clone()?;
@@ -165,7 +159,7 @@ fn the_state_belongs_to_the_time(rt: HostRuntime) -> Result<(), Fail> {
 
 /// Runs a random row of calls, and looks whether the text and the words are those of its calls made one by one.
 fn run(rt: &impl Abort, heap: Global, seed: u64) -> Result<(), Fail> {
-    let mut random = Random { seed };
+    let mut random = Random::new(seed);
     let sky = Sky::random(heap, &mut random)?;
     let mut bytes = sky.bytes(heap)?;
     let mut lent = Lent::new(heap)?;
@@ -179,9 +173,9 @@ fn run(rt: &impl Abort, heap: Global, seed: u64) -> Result<(), Fail> {
             continue;
         }
         match lent.obey(&mut player, call, number) {
-            Ok(answer) => text.push_str(format!(in heap; "{answer}\n")?.as_str())?,
+            Ok(answer) => writeln!(text, "{answer}")?,
             Err(error) => {
-                text.push_str(format!(in heap; "{error}\n")?.as_str())?;
+                writeln!(text, "{error}")?;
                 refusal = Some(error);
             }
         }

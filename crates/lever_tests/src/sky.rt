@@ -14,6 +14,15 @@ pub struct Body {
     pub momenta: [u64; 3],
 }
 
+impl Body {
+    /// Gives its words as they lie in memory: for each axis the position and the momentum.
+    fn words(&self) -> [u64; 6] {
+        let [x, y, z] = self.positions;
+        let [along_x, along_y, along_z] = self.momenta;
+        [x, along_x, y, along_y, z, along_z]
+    }
+}
+
 /// A system and its opening.
 #[derive(Drop)]
 pub struct Sky {
@@ -76,6 +85,7 @@ impl Sky {
                 _ => random.words(),
             };
             bodies.push(Body {
+                // The check proves that `as` loses nothing.
                 mass: 1 + random.below(1023) as u16,
                 positions,
                 momenta: random.words(),
@@ -103,29 +113,23 @@ impl Sky {
     }
 
     /// Gives the words of the opening as they lie in memory.
-    pub fn words(&self, heap: Global) -> Result<Vec<u64>, Fail> {
-        let mut words = Vec::new(heap);
-        for body in self.bodies.iter() {
-            for (position, momentum) in body.positions.iter().zip(body.momenta.iter()) {
-                words.push(*position)?;
-                words.push(*momentum)?;
-            }
-        }
-        Ok(words)
+    pub fn words(&self, heap: Global) -> Result<Vec<u64>, AllocError> {
+        self.bodies
+            .iter()
+            .flat_map(|body| body.words())
+            .collect(heap)
     }
 
     /// Gives the system without its opening.
     pub fn system(&self, heap: Global) -> Result<System, Fail> {
-        let Some(softening) = Softening::new(self.softening) else {
-            return Err(Fail::new("a softening out of range"));
-        };
-        let mut masses = Vec::new(heap);
-        for body in self.bodies.iter() {
-            let Some(mass) = Mass::new(u64::from(body.mass)) else {
-                return Err(Fail::new("a mass out of range"));
-            };
-            masses.push(mass)?;
-        }
+        let softening = Softening::new(self.softening).ok_or("a softening out of range")?;
+        let masses: Vec<Mass> = self
+            .bodies
+            .iter()
+            .map(|body| -> Result<Mass, Fail> {
+                Ok(Mass::new(u64::from(body.mass)).ok_or("a mass out of range")?)
+            })
+            .try_collect(heap)?;
         Ok(System::new(softening, masses.as_slice())?)
     }
 }
