@@ -6,7 +6,7 @@ use Rattle.input.specs.declared.Request.{Request}
 use Rattle.input.specs.declared.Request.TheVariants.{Help, ByOption, Files}
 
 -- the text of the first word, which is empty where there are no words
-unfoldable pub first_text : List (String Global) → List ℕ
+abbrev pub first_text : List (String Global) → List ℕ
 first_text [] = []
 first_text (first ∷ _) = string_bytes first
 
@@ -15,7 +15,7 @@ abbrev pub IsOption : List ℕ → Type 0
 IsOption text = starts_with (λ a b. a == b) text (codes "--") ≡ true
 
 -- these words ask for this
-unfoldable pub Asks : List (String Global) → Request → Type 0
+abbrev pub Asks : List (String Global) → Request → Type 0
 Asks words Help = first_text words ≡ codes "--help"
 Asks words (ByOption option rest) = IsOption (first_text words) × (first_text words ≢ codes "--help") × (words ≡ option.now ∷ rest.now)
 Asks words (Files names) = (IsOption (first_text words) → ⊥) × (names.now ≡ words)

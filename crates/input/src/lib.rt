@@ -106,7 +106,8 @@ pub fn finish<R: Drop, E: fmt::Display + Drop>(
     }
 }
 
-/// Words that suffice for every system.
+/// Words that suffice for every system. They are lent one by one, since whoever moves a system takes slices, which a caller
+/// may cut.
 #[derive(Drop)]
 pub struct Words {
     pub state: Vec<u64>,
