@@ -30,7 +30,7 @@ fn pair() -> Option<System> {
 }
 
 fn read_number(text: &str) -> Result<u32> {
-    // Without `ok`, what `parse` has to say would be told too.
+    // Without `ok`, what `parse` has to say would be told too. `soak` has these two lines with its own type and text.
     let number = text.parse().ok();
     number.context("a number is wanted, 0 to 4294967295; run --help tells more")
 }

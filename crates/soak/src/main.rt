@@ -65,7 +65,7 @@ fn random_opening(heap: Global, seed: u64) -> Result<Opening> {
 }
 
 fn read_number(text: &str) -> Result<u64> {
-    // Without `ok`, what `parse` has to say would be told too.
+    // Without `ok`, what `parse` has to say would be told too. `run` has these two lines with its own type and text.
     let number = text.parse().ok();
     number.context("STEPS and SEED are numbers below 2^64 (soak --help tells more)")
 }
