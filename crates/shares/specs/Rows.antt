@@ -22,7 +22,7 @@ row_momentum bytes k a = word_at bytes (49 * k + (1 + 8 * a))
 abbrev pub row_position : List ℕ → ℕ → ℕ → ℕ
 row_position bytes k a = word_at bytes (49 * k + (25 + 8 * a))
 
--- the whole rows in so many bytes
+-- the whole rows in so many bytes, counted, and each of its own
 abbrev pub rows_in : List ℕ → ℕ
 rows_in bytes = length bytes / 49
 

@@ -105,7 +105,7 @@ pub fn together(
 }
 
 /// Makes one shared step.
-// The four slices are passed one by one: no proof is made yet of a call that is lent two fields of one struct at once.
+// The four slices are passed one by one: no proof is made yet of a call that is lent two fields behind one reference.
 fn share_step(
     system: &System,
     shared: SharedStep,
