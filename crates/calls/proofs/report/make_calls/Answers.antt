@@ -1,5 +1,5 @@
 -- Each turn tells one call more; the row is over behind the last byte, or stops at a refusal.
-use Rattle.std.proofs.Common.{◌≡◌, suc, ◌+◌, ◌-◌, ◌≤◌, length, sym, ap, ◌∙◌, subst, arith}
+use Rattle.std.proofs.Common.{◌≡◌, suc, ◌+◌, ◌-◌, ◌≤◌, length, sym, ap, ◌∙◌, subst, arith, rules}
 use Rattle.calls.specs.Calls.{row_from}
 use Rattle.calls.specs.Checkpoints.{machine_of}
 use Rattle.calls.specs.Machine.{rules_of}
@@ -57,7 +57,7 @@ loop-number-preserved c =
     ∙ ap (λ s. answered c.in-Ok.answer there (trace (rules_of s) there (n + 1) (row_from bytes most (n + 1) to))) l.invariant.system
     ∙ ap (λ k. answered c.in-Ok.answer there (trace (rules_of system) there k (row_from bytes (length bytes - k) k to))) (sym steps.3) in
     record {
-      told = told_more l.invariant.told c.in-Ok.answer there _ _ further c.in_ok-writeln-in-Ok.ensures.bytes;
+      told = told_more l.invariant.told c.in-Ok.answer there _ _ further (search rules);
       system = on.system ∙ l.invariant.system;
       behind = behind_then (ap (λ s. s.count) l.invariant.system) l.invariant.behind on.behind;
       row = steps.2 ∙ l.invariant.row;
