@@ -6,7 +6,7 @@ use words::Mass;
 
 /// A system of 1 to 64 bodies. Masses behind the last body's are of no account.
 // The count stands beside the array, since a system is copied, which no list of the library can be.
-#[derive(Clone, Copy)]
+#[derive(Clone, Copy, PartialEq, Eq, Debug)]
 pub struct System {
     pub(crate) count: usize,
     pub(crate) softening: Softening,

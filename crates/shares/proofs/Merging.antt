@@ -1,14 +1,13 @@
 -- States that are merged: outside of the system there is nothing, and from one state the merged one is that of one computer.
-use Rattle.std.proofs.Common.{◌≡◌, ℕ, ◌+◌, ◌*◌, ◌<◌, ◌≤◌, Bool, true, false, cond, ◌⊎◌, List, [], ◌∷◌, ◌++◌, length, get_or, take, refl, ap, ◌∙◌, le-ltb}
+use Rattle.std.proofs.Common.{◌≡◌, ℕ, ◌+◌, ◌<◌, ◌≤◌, Bool, true, false, cond, ◌⊎◌, List, [], ◌∷◌, ◌++◌, length, get_or, take, refl, ap, ◌∙◌}
 use Rattle.std.proofs.lemmas.List.{take_more}
 use Rattle.words.specs.Words.{word}
 use Rattle.motion.specs.Changes.{member}
 use Rattle.motion.specs.Memory.{state_of, inside}
-use Rattle.motion.specs.Refusals.{good}
 use Rattle.motion.specs.Systems.{WordsState, stepped}
 use Rattle.motion.specs.declared.system.System.{System}
 use Rattle.motion.proofs.WholeSteps.{nothing_outside}
-use Rattle.shares.specs.Together.{merged, Two, together_of, alone_of, lent_together}
+use Rattle.shares.specs.Together.{merged, Two, together_of, alone_of}
 use Rattle.shares.specs.declared.SharedStep.{SharedStep}
 
 either : {X : Type 0} (c : Bool) (x y z : X) → x ≡ z → y ≡ z → cond c x y ≡ z
@@ -53,8 +52,3 @@ pub together_more : (system : System) (steps : List SharedStep) (i : ℕ) (d : S
     together_of system (take (i + 1) steps) two
     ≡ (let t = together_of system (take i steps) two in record { first = merged system (get_or steps i d) t.first t.second; second = merged system (get_or steps i d) t.first t.second })
 together_more system steps i d two h = ap (λ l. together_of system l two) (take_more steps i d h) ∙ together_push system (take i steps) (get_or steps i d) two
-
--- slices that are long enough are not refused
-pub lent_enough : (n first second work rows : ℕ) → 6 * n ≤ first → 6 * n ≤ second → 6 * n ≤ work → 49 * n ≤ rows → good tt ≡ lent_together n first second work rows
-lent_enough n first second work rows h k l m =
-    rw (le-ltb first (6 * n) h) (rw (le-ltb second (6 * n) k) (rw (le-ltb work (6 * n) l) (rw (le-ltb rows (49 * n) m) refl)))

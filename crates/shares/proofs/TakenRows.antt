@@ -69,9 +69,6 @@ module _ (n : ℕ) (rows : List ℕ) where
   unfolding rows_from
   rows_over total k h = let left : total - k ≡ 0 = omega arith in rw left refl
 
-  pub distinct_none : Distinct n rows 0
-  distinct_none = record { below = λ j h. absurd (omega arith); apart = λ i j l h. absurd (omega arith) }
-
   pub distinct_more : (k : ℕ) → row_body rows k < n → seen rows k (row_body rows k) ≡ false → Distinct n rows k → Distinct n rows (k + 1)
   distinct_more k within fresh all = record {
     below = λ j h. elim (eqb_tells j k) [ inl t ↦ rw t.1 within | inr t ↦ all.below j (omega arith) ];

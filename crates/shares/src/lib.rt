@@ -18,7 +18,7 @@ mod rows;
 mod taking;
 
 /// A step, or a step back, that two computers share: the first has the bodies of `first`, the second all others.
-#[derive(Clone, Copy)]
+#[derive(Clone, Copy, PartialEq, Eq, Debug)]
 pub struct SharedStep {
     pub direction: Direction,
     pub first: [bool; 64],

@@ -47,6 +47,7 @@ pub fn size_of_signed(word: u64) -> u64
 pub fn divided_by(word: u64, mass: Mass) -> u64
     ensures { result ≡ divided w64 word mass.value }
 {
+    // `as` loses nothing here, which its type proves: `i64::try_from` would add an error that never comes.
     (read_signed(word) / mass.value() as i64).cast_unsigned()
 }
 
