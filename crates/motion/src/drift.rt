@@ -6,11 +6,11 @@ use crate::body::drift;
 use crate::members::Members;
 use crate::mover::Mover;
 
-impl Mover {
+impl Mover<'_> {
     /// Changes the positions of these bodies by their momenta.
     pub(crate) fn drift<M: Members>(&self, members: &M, state: &mut [u64])
-        requires { length state.old ≡ 6 * self.now.system.count }
-        ensures { AllDrifted self.now.system self.now.direction (M.has members.now) self.now.system.count state.old state.new }
+        requires { length state.old ≡ 6 * self.now.system.now.count }
+        ensures { AllDrifted self.now.system.now self.now.direction (M.has members.now) self.now.system.now.count state.old state.new }
     {
         for (b, mass) in self.system.masses().iter().enumerate() {
             if members.has(b) {

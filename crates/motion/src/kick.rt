@@ -42,13 +42,13 @@ impl System {
     }
 }
 
-impl Mover {
+impl Mover<'_> {
     /// Has two bodies give each other their impulses. The root of their distance is looked for from `start`, and handed back.
     fn exchange(&self, i: usize, j: usize, state: &mut [u64], start: u64) -> u64
-        requires first { i < self.now.system.count }
+        requires first { i < self.now.system.now.count }
         requires second { j < i }
-        requires state { length state.old ≡ 6 * self.now.system.count }
-        ensures { Exchanged self.now.system self.now.direction i j state.old state.new }
+        requires state { length state.old ≡ 6 * self.now.system.now.count }
+        ensures { Exchanged self.now.system.now self.now.direction i j state.old state.new }
     {
         let direction = self.direction;
         let impulse = self.system.impulse(i, j, state, start);
@@ -63,10 +63,10 @@ impl Mover {
 
     /// Has body `i` and each body before it give each other their impulses. `roots` are those of these pairs.
     fn exchange_row(&self, i: usize, state: &mut [u64], roots: &mut [u64])
-        requires body { i < self.now.system.count }
-        requires state { length state.old ≡ 6 * self.now.system.count }
+        requires body { i < self.now.system.now.count }
+        requires state { length state.old ≡ 6 * self.now.system.now.count }
         requires roots { length roots.old ≡ i }
-        ensures { RowExchanged self.now.system self.now.direction i i state.old state.new }
+        ensures { RowExchanged self.now.system.now self.now.direction i i state.old state.new }
     {
         for (j, root) in roots.iter_mut().enumerate() {
             *root = self.exchange(i, j, state, *root);
@@ -75,9 +75,9 @@ impl Mover {
 
     /// Has all bodies give each other their impulses. `roots` are those of all pairs, row by row.
     pub(crate) fn kick_all(&self, state: &mut [u64], roots: &mut [u64])
-        requires state { length state.old ≡ 6 * self.now.system.count }
-        requires roots { length roots.old ≡ work_length self.now.system.count }
-        ensures { AllKicked self.now.system self.now.direction self.now.system.count state.old state.new }
+        requires state { length state.old ≡ 6 * self.now.system.now.count }
+        requires roots { length roots.old ≡ work_length self.now.system.now.count }
+        ensures { AllKicked self.now.system.now self.now.direction self.now.system.now.count state.old state.new }
     {
         let mut rest = roots;
         // By number: parts of the lent words are lent on.

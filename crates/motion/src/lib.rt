@@ -101,7 +101,7 @@ impl System {
         };
         copy.copy_from_slice(words);
         let mover = Mover {
-            system: *self,
+            system: self,
             direction,
         };
         mover.advance_share(share, copy);

@@ -19,11 +19,11 @@ pub fn in_share(share: &[bool], body: usize) -> bool
     share.get(body).is_some_and(|held| *held)
 }
 
-impl Mover {
+impl Mover<'_> {
     /// Makes a step, or a step back, for the bodies of a share. The words of the other bodies are of no account after it.
     pub(crate) fn advance_share(&self, share: &[bool], state: &mut [u64])
-        requires { length state.old ≡ 6 * self.now.system.count }
-        ensures { ShareHolds self.now.system.count share.now (stepped self.now.direction self.now.system (state_of self.now.system.count state.old)) state.new }
+        requires { length state.old ≡ 6 * self.now.system.now.count }
+        ensures { ShareHolds self.now.system.now.count share.now (stepped self.now.direction self.now.system.now (state_of self.now.system.now.count state.old)) state.new }
     {
         // Not one function with `advance`: its contract over a closure that kicks would be longer than the two orders.
         match self.direction {
@@ -40,10 +40,10 @@ impl Mover {
 
     /// Gives body `b` the impulse from body `j`.
     fn receive(&self, b: usize, j: usize, state: &mut [u64])
-        requires body { b < self.now.system.count }
-        requires other { j < self.now.system.count }
-        requires state { length state.old ≡ 6 * self.now.system.count }
-        ensures { Received self.now.system self.now.direction b j state.old state.new }
+        requires body { b < self.now.system.now.count }
+        requires other { j < self.now.system.now.count }
+        requires state { length state.old ≡ 6 * self.now.system.now.count }
+        ensures { Received self.now.system.now self.now.direction b j state.old state.new }
     {
         let impulse = self.system.impulse(b, j, state, ROOT_START);
         kick(
@@ -55,9 +55,9 @@ impl Mover {
 
     /// Gives body `b` the impulses from all bodies; that from itself is none.
     fn pull(&self, b: usize, state: &mut [u64])
-        requires body { b < self.now.system.count }
-        requires state { length state.old ≡ 6 * self.now.system.count }
-        ensures { Pulled self.now.system self.now.direction b self.now.system.count state.old state.new }
+        requires body { b < self.now.system.now.count }
+        requires state { length state.old ≡ 6 * self.now.system.now.count }
+        ensures { Pulled self.now.system.now self.now.direction b self.now.system.now.count state.old state.new }
     {
         // By number: parts of the lent words are lent on.
         for j in 0..self.system.count {
@@ -67,8 +67,8 @@ impl Mover {
 
     /// Gives the bodies of a share their impulses.
     fn kick_share(&self, share: &[bool], state: &mut [u64])
-        requires { length state.old ≡ 6 * self.now.system.count }
-        ensures { ShareKicked self.now.system self.now.direction share.now self.now.system.count state.old state.new }
+        requires { length state.old ≡ 6 * self.now.system.now.count }
+        ensures { ShareKicked self.now.system.now self.now.direction share.now self.now.system.now.count state.old state.new }
     {
         // By number: parts of the lent words are lent on.
         for b in 0..self.system.count {

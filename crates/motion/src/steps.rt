@@ -9,12 +9,12 @@ use crate::members::Everyone;
 use crate::mover::Mover;
 use crate::turn::{Direction, Turn};
 
-impl Mover {
+impl Mover<'_> {
     /// Makes a step, or a step back.
     fn advance(&self, state: &mut [u64], roots: &mut [u64])
-        requires state { length state.old ≡ 6 * self.now.system.count }
-        requires roots { length roots.old ≡ work_length self.now.system.count }
-        ensures { state_of self.now.system.count state.new ≡ stepped self.now.direction self.now.system (state_of self.now.system.count state.old) }
+        requires state { length state.old ≡ 6 * self.now.system.now.count }
+        requires roots { length roots.old ≡ work_length self.now.system.now.count }
+        ensures { state_of self.now.system.now.count state.new ≡ stepped self.now.direction self.now.system.now (state_of self.now.system.now.count state.old) }
     {
         match self.direction {
             Direction::Ahead => {
@@ -30,9 +30,9 @@ impl Mover {
 
     /// Makes so many steps, or so many steps back.
     fn repeat(&self, count: u64, state: &mut [u64], roots: &mut [u64])
-        requires state { length state.old ≡ 6 * self.now.system.count }
-        requires roots { length roots.old ≡ work_length self.now.system.count }
-        ensures { state_of self.now.system.count state.new ≡ again (stepped self.now.direction self.now.system) count (state_of self.now.system.count state.old) }
+        requires state { length state.old ≡ 6 * self.now.system.now.count }
+        requires roots { length roots.old ≡ work_length self.now.system.now.count }
+        ensures { state_of self.now.system.now.count state.new ≡ again (stepped self.now.direction self.now.system.now) count (state_of self.now.system.now.count state.old) }
     {
         for _ in 0..count {
             self.advance(state, roots);
@@ -48,11 +48,11 @@ impl System {
         ensures { state_of self.now.count state.new ≡ travel (step_of self.now) (back_of self.now) turns.now (state_of self.now.count state.old) }
     {
         let ahead = Mover {
-            system: *self,
+            system: self,
             direction: Direction::Ahead,
         };
         let behind = Mover {
-            system: *self,
+            system: self,
             direction: Direction::Behind,
         };
         for turn in turns {

@@ -5,6 +5,6 @@ use Rattle.motion.proofs.mover.Mover.kick_all.Given as goal
 
 abbrev pub invariant-loop-i : goal.invariant-loop-i
 invariant-loop-i l = record {
-  done : AllKicked l.self.system l.self.direction l.i l.initial.state l.state;
+  done : AllKicked l.self.system.now l.self.direction l.i l.initial.state l.state;
   left : length l.rest + length l.rest + l.i * l.i ≡ length l.fn.roots + length l.fn.roots + l.i;
 }

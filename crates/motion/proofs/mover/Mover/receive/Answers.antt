@@ -9,4 +9,4 @@ returns c =
     let b = c.args.b in
     let six : length c.kick.new.words ≡ 6 = search (rules, places) in
     let room : 6 * b + 6 ≤ length c.args.state.now = omega arith in
-    received c.args.self.now.system _ b c.args.j _ c.args.state.now _ _ room six (omega arith) c.kick.ensures c.impulse-impulse.ensures.value
+    received c.args.self.now.system.now _ b c.args.j _ c.args.state.now _ _ room six (omega arith) c.kick.ensures c.impulse-impulse.ensures.value

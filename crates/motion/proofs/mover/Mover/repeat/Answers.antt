@@ -8,4 +8,4 @@ pub loop-init : goal.loop-init
 loop-init c = sym (again_none _ _)
 
 pub loop-preserved : goal.loop-preserved
-loop-preserved c = c.advance.ensures ∙ ap (stepped c.args.self.now.direction c.args.self.now.system) c.loop.invariant ∙ sym (again_one_more _ _ _)
+loop-preserved c = c.advance.ensures ∙ ap (stepped c.args.self.now.direction c.args.self.now.system.now) c.loop.invariant ∙ sym (again_one_more _ _ _)

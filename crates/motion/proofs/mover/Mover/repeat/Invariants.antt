@@ -7,4 +7,4 @@ use Rattle.motion.proofs.mover.Mover.repeat.Given as goal
 
 abbrev pub invariant-loop : goal.invariant-loop
 invariant-loop l =
-    state_of l.self.system.count l.state ≡ again (stepped l.self.direction l.self.system) l.counter (state_of l.self.system.count l.initial.state)
+    state_of l.self.system.now.count l.state ≡ again (stepped l.self.direction l.self.system.now) l.counter (state_of l.self.system.now.count l.initial.state)
