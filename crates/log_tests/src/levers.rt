@@ -85,6 +85,7 @@ impl Lever {
 
     /// Gives a random call that will be answered; it keeps no mark above 14.
     fn random_call(&self, random: &mut SplitMix64) -> Call {
+        // That `as` loses nothing is proved here and below: `try_from` would need an `unwrap`.
         let steps = (random.next_u64() % 5) as u32;
         let mark = (random.next_u64() % 15) as u8;
         let body = (random.next_u64() % 256) as u8;

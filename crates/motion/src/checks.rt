@@ -8,6 +8,7 @@ pub fn check_sum(words: &[u64]) -> u64
 {
     let mut sum = 0;
     for (k, word) in words.iter().enumerate() {
+        // Below 64, so `as` loses nothing, which is proved: `u32::try_from` would add an error that never comes.
         sum ^= word.rotate_left((k % 64) as u32);
     }
     sum
