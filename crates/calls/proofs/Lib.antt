@@ -4,6 +4,7 @@ pub mod Moved
 pub mod Opened
 pub mod Played
 pub mod SameSystem
+pub mod Sessions
 pub mod Timely
 pub mod Traced
 pub mod Validity

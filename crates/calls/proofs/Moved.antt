@@ -22,15 +22,9 @@ Promised k call result player after state state_after checkpoints checkpoints_le
     MatchResult result (λ _. Obeyed k call player after state state_after checkpoints checkpoints_left work work_after)
     (λ _. Untouched player after state state_after checkpoints checkpoints_left work work_after)
 
--- a time in range has its test, and one out of range too
+-- a time in range has its test
 in_range_yes : (v : ℤ) → SFits w64 v → in_range v ≡ true
 in_range_yes v fits = lt-ltb (mag v) (2 ^ 63) fits.sfits
-
-in_range_no : (v : ℤ) → (SFits w64 v → ⊥) → in_range v ≡ false
-in_range_no v out = elim (leb_tells (suc (mag v)) (2 ^ 63)) [
-  | inl t ↦ absurd (out (record { sfits = t.1 }))
-  | inr t ↦ t.0
-]
 
 module _ (k : ℕ) (call : Call) (player after : Player) (state state_after checkpoints work work_after : List ℕ) where
   abbrev pub machine : Machine

@@ -83,16 +83,7 @@ behind_then {n} {m} {a} {b} {c} {d} {e} {f} {g} {h} {i} same first second =
       work_behind = then.work_behind ∙ first.work_behind;
     }
 
-module _ {player after : Player} {state state_after checkpoints checkpoints_after work work_after : List ℕ}
-    (same : Untouched player after state state_after checkpoints checkpoints_after work work_after) where
-  -- where nothing was touched, nothing behind has changed
-  pub behind_untouched : (n : ℕ) → BehindSame n state state_after checkpoints checkpoints_after work work_after
-  behind_untouched n = record {
-    state_behind = ap (drop (state_length n)) same.state_same;
-    checkpoints_behind = ap (drop (checkpoints_length n)) same.checkpoints_same;
-    work_behind = ap (drop (work_length n)) same.work_same;
-  }
-
-  -- and the machine is the same
-  pub machine_untouched : machine_of player state checkpoints ≡ machine_of after state_after checkpoints_after
-  machine_untouched = λ i. machine_of (sym same.player_same i) (sym same.state_same i) (sym same.checkpoints_same i)
+-- where nothing was touched, the machine is the same
+pub machine_untouched : {player after : Player} {state state_after checkpoints checkpoints_after work work_after : List ℕ} →
+    Untouched player after state state_after checkpoints checkpoints_after work work_after → machine_of player state checkpoints ≡ machine_of after state_after checkpoints_after
+machine_untouched same = λ i. machine_of (sym same.player_same i) (sym same.state_same i) (sym same.checkpoints_same i)

@@ -7,5 +7,6 @@ pub mod Outcomes
 pub mod Promises
 pub mod Reports
 pub mod Rows
+pub mod Sessions
 pub mod SystemBytes
 pub mod Trace

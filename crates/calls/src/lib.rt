@@ -12,9 +12,11 @@ mod opening;
 mod player;
 mod report;
 mod row;
+mod session;
 pub mod theorems;
 
 pub use answer::Answer;
 pub use call::Call;
 pub use player::Player;
 pub use report::{Report, run_calls};
+pub use session::Session;

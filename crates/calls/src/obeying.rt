@@ -5,10 +5,11 @@ ghost use Rattle.motion.specs.Refusals.{told};
 ghost use Rattle.calls.specs.Checkpoints.{checkpoints_length, kept_words, machine_of};
 ghost use Rattle.calls.specs.Machine.{rules_of, provided, obey as obeying};
 ghost use Rattle.calls.specs.Outcomes.{Obeyed, Untouched};
+ghost use Rattle.calls.specs.Sessions.{Kept, ObeyedIn, UntouchedIn, machine_in_session};
 ghost use Rattle.calls.specs.SystemBytes.{room_told};
 
 use crate::checkpoints::{CHECKPOINTS, checkpoint_size};
-use crate::{Answer, Call, Player};
+use crate::{Answer, Call, Player, Session};
 use motion::{Refusal, System};
 use words::read_signed;
 
@@ -105,5 +106,17 @@ impl Player {
             position: read_signed(state[at]),
             momentum: read_signed(state[at + 1]),
         })
+    }
+}
+
+impl Session<'_> {
+    /// Obeys call `number` as `Player::obey` does; no slice can be too short.
+    pub fn obey(&mut self, call: Call, number: usize) -> Result<Answer, Refusal>
+        ensures answer { told result ≡ (obeying (rules_of self.old.player.system) (machine_in_session self.old) number call).answer }
+        ensures left { MatchResult result (λ _. ObeyedIn number call self.old self.new) (λ _. UntouchedIn self.old self.new) }
+        ensures kept { Kept self.old self.new }
+    {
+        self.player
+            .obey(call, number, self.state, self.checkpoints, self.work)
     }
 }

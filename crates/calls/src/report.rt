@@ -1,16 +1,15 @@
 //! Whole rows of calls, and the text that tells of them.
 ghost use Rattle.std.specs.Prelude.{◌≡◌, ℕ, List, [], ◌++◌, length, IfOk, string_bytes, MatchResult};
-ghost use Rattle.motion.specs.Refusals.{good};
 ghost use Rattle.calls.specs.Calls.{row_in};
-ghost use Rattle.calls.specs.Checkpoints.{machine_of};
 ghost use Rattle.calls.specs.Machine.{rules_of};
-ghost use Rattle.calls.specs.Reports.{BehindSame, GoesOn, Stops, RowTold, Left, end_told, rest_of, opening_told, trace_in};
+ghost use Rattle.calls.specs.Reports.{BehindSame, RowTold, Left, end_told, rest_of, opening_told, trace_in};
 ghost use Rattle.calls.specs.Rows.{IsRead};
-ghost use Rattle.calls.specs.SystemBytes.{count_in, room_told};
+ghost use Rattle.calls.specs.Sessions.{GoesOnIn, Kept, StopsIn, machine_in_session};
+ghost use Rattle.calls.specs.SystemBytes.{count_in};
 ghost use Rattle.calls.specs.Trace.{ending, lines, trace};
 
 use crate::row::Row;
-use crate::{Answer, Call, Player};
+use crate::{Answer, Call, Player, Session};
 use motion::Refusal;
 use std::alloc::{AllocError, Global};
 
@@ -60,50 +59,46 @@ fn play(
     ensures behind { BehindSame (count_in bytes.now) state.old state.new checkpoints.old checkpoints.new work.old work.new }
 {
     match Player::open_in_front(bytes, state, checkpoints, work) {
-        Ok(mut player) => {
+        Ok(player) => {
             let calls = Row::new(bytes, player.system_size());
-            make_calls(&mut player, calls, text, state, checkpoints, work)
+            let mut session = Session {
+                player,
+                state,
+                checkpoints,
+                work,
+            };
+            session.make_calls(calls, text)
         }
         Err(refusal) => Ok(Some(refusal)),
     }
 }
 
-/// Makes call `number`, if it could be read.
-fn make_call(
-    player: &mut Player,
-    number: usize,
-    call: Result<Call, Refusal>,
-    state: &mut [u64],
-    checkpoints: &mut [u64],
-    work: &mut [u64],
-) -> Result<Answer, Refusal>
-    requires { room_told player.old.system.count (length state.old) (length checkpoints.old) (length work.old) ≡ good tt }
-    ensures { (bytes : List ℕ) (at to : ℕ) → IsRead bytes number at call to → MatchResult result (λ answer. GoesOn bytes number at answer to player.old player.new state.old state.new checkpoints.old checkpoints.new work.old work.new) (λ refusal. Stops bytes number at refusal player.old player.new state.old state.new checkpoints.old checkpoints.new work.old work.new) }
-{
-    player.obey(call?, number, state, checkpoints, work)
-}
-
-/// Makes the calls of a row, up to the last or to one that is refused, and appends a line for each answer.
-fn make_calls(
-    player: &mut Player,
-    calls: Row<'_>,
-    text: &mut String,
-    state: &mut [u64],
-    checkpoints: &mut [u64],
-    work: &mut [u64],
-) -> Result<Option<Refusal>, AllocError>
-    requires room { room_told player.old.system.count (length state.old) (length checkpoints.old) (length work.old) ≡ good tt }
-    requires calls { calls.number ≡ 0 }
-    requires text { string_bytes text.old ≡ [] }
-    ensures told { IfOk result (λ refusal. RowTold (trace (rules_of player.old.system) (machine_of player.old state.old checkpoints.old) 0 (row_in calls.entry.bytes.now calls.entry.at)) (machine_of player.old state.old checkpoints.old) (string_bytes text.new) (machine_of player.new state.new checkpoints.new) refusal) }
-    ensures system { player.new.system ≡ player.old.system }
-    ensures behind { BehindSame player.old.system.count state.old state.new checkpoints.old checkpoints.new work.old work.new }
-{
-    for (number, call) in calls {
-        match make_call(player, number, call, state, checkpoints, work) {
-            Ok(answer) => writeln!(text, "{answer}")?,
-            Err(refusal) => return Ok(Some(refusal)),
-        }
+impl Session<'_> {
+    /// Makes call `number`, if it could be read.
+    fn make_call(&mut self, number: usize, call: Result<Call, Refusal>) -> Result<Answer, Refusal>
+        ensures made { (bytes : List ℕ) (at to : ℕ) → IsRead bytes number at call to → MatchResult result (λ answer. GoesOnIn bytes number at answer to self.old self.new) (λ refusal. StopsIn bytes number at refusal self.old self.new) }
+        ensures kept { Kept self.old self.new }
+    {
+        self.obey(call?, number)
     }
-    Ok(None)
+
+    /// Makes the calls of a row, up to the last or to one that is refused, and appends a line for each answer.
+    fn make_calls(
+        &mut self,
+        calls: Row<'_>,
+        text: &mut String,
+    ) -> Result<Option<Refusal>, AllocError>
+        requires calls { calls.number ≡ 0 }
+        requires text { string_bytes text.old ≡ [] }
+        ensures told { IfOk result (λ refusal. RowTold (trace (rules_of self.old.player.system) (machine_in_session self.old) 0 (row_in calls.entry.bytes.now calls.entry.at)) (machine_in_session self.old) (string_bytes text.new) (machine_in_session self.new) refusal) }
+        ensures kept { Kept self.old self.new }
+    {
+        for (number, call) in calls {
+            match self.make_call(number, call) {
+                Ok(answer) => writeln!(text, "{answer}")?,
+                Err(refusal) => return Ok(Some(refusal)),
+            }
+        }
+        Ok(None)
+    }
 }

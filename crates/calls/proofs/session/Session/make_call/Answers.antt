@@ -5,7 +5,7 @@ use Rattle.motion.specs.Refusals.{number_of, place_of, told}
 use Rattle.motion.specs.declared.refusal.Refusal.{Refusal}
 use Rattle.calls.specs.Calls.{row_from}
 use Rattle.calls.specs.Checkpoints.{machine_of}
-use Rattle.calls.specs.Machine.{rules_of, provided, obey}
+use Rattle.calls.specs.Machine.{rules_of, obey}
 use Rattle.calls.specs.Outcomes.{Obeyed, Untouched}
 use Rattle.calls.specs.Reports.{GoesOn, Stops}
 use Rattle.calls.specs.Rows.{IsRead}
@@ -14,7 +14,7 @@ use Rattle.calls.specs.declared.answer.Answer.{Answer}
 use Rattle.calls.specs.declared.call.Call.{Call}
 use Rattle.calls.specs.declared.player.Player.{Player}
 use Rattle.calls.proofs.Traced.{trace_fault, trace_refused, trace_answered}
-use Rattle.calls.proofs.report.make_call.Goals as goal
+use Rattle.calls.proofs.session.Session.make_call.Goals as goal
 
 -- a call that was read is obeyed, or refused
 obeyed : (call : Call) (k : ℕ) (player after : Player) (state state_after checkpoints checkpoints_after work work_after : List ℕ) (result : Result Answer Refusal) →
@@ -44,23 +44,19 @@ obeyed call k player after state state_after checkpoints checkpoints_after work 
   same = left;
 }
 
-pub returns-in_err-call : goal.returns-in_err-call
-returns-in_err-call c = λ bytes at to read.
+pub returns-in_err-call-clause-made : goal.returns-in_err-call-clause-made
+returns-in_err-call-clause-made c = λ bytes at to read.
     let p = err_from_is_err_and c.from_residual.result c.from_residual.ensures.1 in
-    let player = c.args.player.now in
+    let player = c.args.self.now.player in
     let e = c.in_err-call.field-0.0 in
     let fault : IsRead bytes c.args.number at (Err e) to = subst (λ r. IsRead bytes c.args.number at r to) c.in_err-call.was read in
     rw (p.1, p.2) (record {
-      trace_off = λ most. trace_fault (rules_of player.system) (machine_of player c.args.state.now c.args.checkpoints.now) bytes c.args.number at
+      trace_off = λ most. trace_fault (rules_of player.system) (machine_of player c.args.self.now.state.now c.args.self.now.checkpoints.now) bytes c.args.number at
           fault.there most (number_of e) (place_of e) (sym fault.call_is);
       same = record { player_same = refl; state_same = refl; checkpoints_same = refl; work_same = refl };
     })
 
-pub returns : goal.returns
-returns c = λ bytes at to read.
-    let player = c.args.player.now in
-    let m = machine_of player c.args.state.now c.args.checkpoints.now in
-    let call = c.in_ok-call.field-0 in
-    let said = c.obey.ensures.answer ∙ ap (λ t. provided t (obey (rules_of player.system) m c.args.number call).answer) c.requires in
-    obeyed call c.args.number player c.obey.new.self _ _ _ _ _ _ c.obey.result said c.obey.ensures.left bytes at to
+pub returns-clause-made : goal.returns-clause-made
+returns-clause-made c = λ bytes at to read.
+    obeyed c.in_ok-call.field-0 c.args.number c.args.self.now.player c.obey.new.self.player _ _ _ _ _ _ c.obey.result c.obey.ensures.answer c.obey.ensures.left bytes at to
     (subst (λ r. IsRead bytes c.args.number at r to) c.in_ok-call.was read)
