@@ -1,11 +1,10 @@
 -- Rows and traces, one call at a time.
-use Rattle.std.proofs.Common.{◌≡◌, ℕ, zero, suc, ◌+◌, ◌<◌, ◌≤◌, cond, List, ◌++◌, length, drop, codes, sym, refl, ap, ◌∙◌, subst, append_assoc, le-leb}
+use Rattle.std.proofs.Common.{◌≡◌, ℕ, zero, suc, ◌+◌, ◌<◌, ◌≤◌, cond, List, ◌++◌, length, codes, sym, refl, ap, ◌∙◌, subst, append_assoc, le-leb}
 use borrow.Author.Tests.{lt-leb}
-use Rattle.motion.specs.Memory.{state_length, work_length}
 use Rattle.motion.specs.Refusals.{Told, good, refused}
 use Rattle.calls.specs.Answers.{answer_text}
 use Rattle.calls.specs.Calls.{over, begin, size_of, call_at, row_from}
-use Rattle.calls.specs.Checkpoints.{checkpoints_length, machine_of}
+use Rattle.calls.specs.Checkpoints.{machine_of}
 use Rattle.calls.specs.Machine.{Rules, Machine, obey}
 use Rattle.calls.specs.Outcomes.{Untouched}
 use Rattle.calls.specs.Reports.{SoFar, BehindSame}

@@ -1,4 +1,5 @@
 pub mod Checking
 pub mod Checks
+pub mod InSessions
 pub mod Logs
 pub mod Writing

@@ -1,16 +1,17 @@
 //! Checking a log: its calls are made anew, and each time and check sum is compared.
-ghost use Rattle.std.specs.Prelude.{◌≡◌, ℕ, ◌+◌, ◌*◌, ◌<◌, ◌≤◌, List, length, Some, MatchResult, ◌≢◌, slice_index, slice_set};
+ghost use Rattle.std.specs.Prelude.{◌≡◌, ℕ, ◌+◌, ◌<◌, ◌≤◌, length, Some, MatchResult, ◌≢◌, slice_index, slice_set};
 ghost use Rattle.motion.specs.Refusals.{good, refused, number_of, place_of};
-ghost use Rattle.calls.specs.Checkpoints.{machine_of};
 ghost use Rattle.calls.specs.Machine.{Machine, Rules, rules_of};
 ghost use Rattle.calls.specs.Reports.{BehindSame, opening_told};
+ghost use Rattle.calls.specs.Sessions.{Kept, machine_in_session};
 ghost use Rattle.calls.specs.SystemBytes.{count_in, room_told};
 ghost use Rattle.logs.specs.Checking.{Acceptance, accepted_text, checked, ended_told, log_in, log_told};
+ghost use Rattle.logs.specs.Checks.{Compared, EndsAs};
+ghost use Rattle.logs.specs.InSessions.{FoundIn};
 ghost use Rattle.logs.specs.Logs.{FirstWrong, InStamp, Log};
-ghost use Rattle.logs.specs.Checks.{Compared, EndsAs, Found};
 
 use crate::stamp::Stamp;
-use calls::{Call, Player};
+use calls::{Call, Player, Session};
 use motion::Refusal;
 use std::fmt;
 use std::ops::ControlFlow;
@@ -53,35 +54,33 @@ pub fn check_log(
     ensures altered { (j i byte : ℕ) → InStamp bytes.now j i → byte < 256 → (byte ≢ slice_index bytes.now i) → log_in (slice_set bytes.now i byte) (good tt) ≡ refused 10 j }
     ensures behind { BehindSame (count_in bytes.now) state.old state.new checkpoints.old checkpoints.new work.old work.new }
 {
-    let mut player = Player::open_in_front(bytes, state, checkpoints, work)?;
+    let player = Player::open_in_front(bytes, state, checkpoints, work)?;
     let from = player.system_size();
-    check_calls(&mut player, bytes, from, state, checkpoints, work)
+    let mut session = Session {
+        player,
+        state,
+        checkpoints,
+        work,
+    };
+    check_calls(&mut session, bytes, from)
 }
 
 /// Checks the calls from `from` on.
-fn check_calls(
-    player: &mut Player,
-    bytes: &[u8],
-    from: usize,
-    state: &mut [u64],
-    checkpoints: &mut [u64],
-    work: &mut [u64],
-) -> Result<Accepted, Refusal>
-    requires { room_told player.old.system.count (length state.old) (length checkpoints.old) (length work.old) ≡ good tt }
-    ensures answer { checked result ≡ log_told (rules_of player.old.system) bytes.now (length bytes.now) 0 from (machine_of player.old state.old checkpoints.old) }
-    ensures behind { BehindSame player.old.system.count state.old state.new checkpoints.old checkpoints.new work.old work.new }
+fn check_calls(session: &mut Session<'_>, bytes: &[u8], from: usize) -> Result<Accepted, Refusal>
+    ensures answer { checked result ≡ log_told (rules_of session.old.player.system) bytes.now (length bytes.now) 0 from (machine_in_session session.old) }
+    ensures kept { Kept session.old session.new }
 {
     let mut at = from;
     let mut calls = 0;
     // Calls differ in length: where the next one begins is known behind this one.
     while at < bytes.len() {
-        match check_call(player, bytes, calls, at, state, checkpoints, work)? {
+        match check_call(session, bytes, calls, at)? {
             ControlFlow::Continue(next) => at = next,
-            ControlFlow::Break(refusal) => return Ok(accept(player, calls, Some(refusal))),
+            ControlFlow::Break(refusal) => return Ok(accept(&session.player, calls, Some(refusal))),
         }
         calls += 1;
     }
-    Ok(accept(player, calls, None))
+    Ok(accept(&session.player, calls, None))
 }
 
 /// Tells what is accepted, at the player's time.
@@ -98,18 +97,14 @@ fn accept(player: &Player, calls: usize, refusal: Option<Refusal>) -> Accepted
 /// Makes call `number`, whose bytes begin at `at`, and looks at what stands behind it. Gives where the next call begins, or
 /// the refusal that the log ends in.
 fn check_call(
-    player: &mut Player,
+    session: &mut Session<'_>,
     bytes: &[u8],
     number: usize,
     at: usize,
-    state: &mut [u64],
-    checkpoints: &mut [u64],
-    work: &mut [u64],
 ) -> Result<ControlFlow<Refusal, usize>, Refusal>
-    requires at { at < length bytes.now }
-    requires room { room_told player.old.system.count (length state.old) (length checkpoints.old) (length work.old) ≡ good tt }
-    ensures found { Found bytes.now number at player.old player.new state.old state.new checkpoints.old checkpoints.new result }
-    ensures behind { BehindSame player.old.system.count state.old state.new checkpoints.old checkpoints.new work.old work.new }
+    requires { at < length bytes.now }
+    ensures found { FoundIn bytes.now number at session.old session.new result }
+    ensures kept { Kept session.old session.new }
 {
     let call = match Call::decode(bytes, number, at) {
         Ok(call) => call,
@@ -122,8 +117,8 @@ fn check_call(
         }
     };
     let end = at + call.size();
-    match player.obey(call, number, state, checkpoints, work) {
-        Ok(_) => check_stamp(player, bytes, number, end, state),
+    match session.obey(call, number) {
+        Ok(_) => check_stamp(session, bytes, number, end),
         Err(refusal) => check_end(bytes, end, refusal),
     }
 }
@@ -144,20 +139,18 @@ fn check_end(
 
 /// Compares the time and the check sum behind call `number`, at `at`, with those of the player.
 fn check_stamp(
-    player: &Player,
+    session: &Session<'_>,
     bytes: &[u8],
     number: usize,
     at: usize,
-    state: &[u64],
 ) -> Result<ControlFlow<Refusal, usize>, Refusal>
-    requires at { at ≤ length bytes.now }
-    requires state { 6 * player.now.system.count ≤ length state.now }
-    ensures { (checkpoints : List ℕ) → Compared (rules_of player.now.system) bytes.now number at (machine_of player.now state.now checkpoints) result }
+    requires { at ≤ length bytes.now }
+    ensures { Compared (rules_of session.now.player.system) bytes.now number at (machine_in_session session.now) result }
 {
     let Some(stamp) = bytes[at..].first_chunk() else {
         return Err(Refusal::Length(bytes.len()));
     };
-    if Stamp::read(stamp) != Stamp::of(player, state) {
+    if Stamp::read(stamp) != Stamp::of(session) {
         return Err(Refusal::Record(number));
     }
     Ok(ControlFlow::Continue(at + 16))

@@ -2,9 +2,10 @@
 ghost use Rattle.std.specs.Prelude.{◌≡◌, ◌*◌, ◌≤◌, ◌++◌, length, OnOk};
 ghost use Rattle.words.specs.Bytes.{number_at, bytes_of};
 ghost use Rattle.motion.specs.Memory.{state_of};
+ghost use Rattle.calls.specs.Sessions.{machine_in_session};
 ghost use Rattle.logs.specs.Logs.{state_sum, time_word};
 
-use calls::Player;
+use calls::{Player, Session};
 use motion::check_sum;
 use std::alloc::AllocError;
 use words::number_in;
@@ -17,15 +18,14 @@ pub(crate) struct Stamp {
 }
 
 impl Stamp {
-    /// Gives the stamp of a player, and of its state.
-    pub(crate) fn of(player: &Player, state: &[u64]) -> Stamp
-        requires { 6 * player.now.system.count ≤ length state.now }
-        ensures time { result.time ≡ time_word player.now.time }
-        ensures sum { result.sum ≡ state_sum player.now.system.count (state_of player.now.system.count state.now) }
+    /// Gives the stamp of a player, and of the words that are lent to it.
+    pub(crate) fn of(session: &Session<'_>) -> Stamp
+        ensures time { result.time ≡ time_word session.now.player.time }
+        ensures sum { result.sum ≡ state_sum session.now.player.system.count (machine_in_session session.now).state }
     {
         Stamp {
-            time: player.time().cast_unsigned(),
-            sum: check_sum(&state[..6 * player.count()]),
+            time: session.player.time().cast_unsigned(),
+            sum: state_sum(&session.player, session.state),
         }
     }
 
@@ -47,6 +47,14 @@ impl Stamp {
         append_word(log, self.time)?;
         append_word(log, self.sum)
     }
+}
+
+/// Gives the check sum of a player's state.
+fn state_sum(player: &Player, state: &[u64]) -> u64
+    requires { 6 * player.now.system.count ≤ length state.now }
+    ensures { result ≡ state_sum player.now.system.count (state_of player.now.system.count state.now) }
+{
+    check_sum(&state[..6 * player.count()])
 }
 
 /// Appends the eight bytes of a word.

@@ -1,16 +1,17 @@
 //! Writing a log of calls that are made.
 ghost use Rattle.std.specs.Prelude.{◌≡◌, ◌<◌, [], ◌∷◌, ◌++◌, length, IfSome, IfOk, vec_items, OnOk, if◌then◌else◌, ◌==◌};
 ghost use Rattle.std.specs.Option.{option_map};
-ghost use Rattle.motion.specs.Refusals.{good, number_of};
-ghost use Rattle.calls.specs.Checkpoints.{machine_of};
+ghost use Rattle.motion.specs.Refusals.{number_of};
 ghost use Rattle.calls.specs.Machine.{rules_of};
 ghost use Rattle.calls.specs.Reports.{BehindSame, opening_told};
-ghost use Rattle.calls.specs.SystemBytes.{count_in, room_told};
+ghost use Rattle.calls.specs.Sessions.{Kept, machine_in_session};
+ghost use Rattle.calls.specs.SystemBytes.{count_in};
+ghost use Rattle.logs.specs.InSessions.{RecordedIn};
 ghost use Rattle.logs.specs.Logs.{Log};
-ghost use Rattle.logs.specs.Writing.{Recorded, written_from, written_in};
+ghost use Rattle.logs.specs.Writing.{written_from, written_in};
 
 use crate::stamp::Stamp;
-use calls::{Call, Player};
+use calls::{Call, Player, Session};
 use motion::Refusal;
 use std::alloc::{AllocError, Global};
 
@@ -28,34 +29,36 @@ pub fn write_log(
     ensures right { IfOk result (λ log. IfSome log (λ items. Log items.items)) }
     ensures behind { BehindSame (count_in bytes.now) state.old state.new checkpoints.old checkpoints.new work.old work.new }
 {
-    let Ok(mut player) = Player::open_in_front(bytes, state, checkpoints, work) else {
+    let Ok(player) = Player::open_in_front(bytes, state, checkpoints, work) else {
         return Ok(None);
     };
     let from = player.system_size();
     let mut log = bytes[..from].to_vec(heap)?;
-    write_calls(&mut player, bytes, from, &mut log, state, checkpoints, work)?;
+    let mut session = Session {
+        player,
+        state,
+        checkpoints,
+        work,
+    };
+    write_calls(&mut session, bytes, from, &mut log)?;
     Ok(Some(log))
 }
 
 /// Makes the calls from `from` on, and appends the record of each.
 fn write_calls(
-    player: &mut Player,
+    session: &mut Session<'_>,
     bytes: &[u8],
     from: usize,
     log: &mut Vec<u8>,
-    state: &mut [u64],
-    checkpoints: &mut [u64],
-    work: &mut [u64],
 ) -> Result<(), AllocError>
-    requires { room_told player.old.system.count (length state.old) (length checkpoints.old) (length work.old) ≡ good tt }
-    ensures log { OnOk result (log.new.items ≡ log.old.items ++ written_from (rules_of player.old.system) bytes.now (length bytes.now) 0 from (machine_of player.old state.old checkpoints.old)) }
-    ensures behind { BehindSame player.old.system.count state.old state.new checkpoints.old checkpoints.new work.old work.new }
+    ensures log { OnOk result (log.new.items ≡ log.old.items ++ written_from (rules_of session.old.player.system) bytes.now (length bytes.now) 0 from (machine_in_session session.old)) }
+    ensures kept { Kept session.old session.new }
 {
     let mut at = from;
     let mut number = 0;
     // Calls differ in length: where the next one begins is known behind this one.
     while at < bytes.len() {
-        match write_call(player, bytes, number, at, log, state, checkpoints, work)? {
+        match write_call(session, bytes, number, at, log)? {
             Some(next) => at = next,
             None => return Ok(()),
         }
@@ -67,19 +70,15 @@ fn write_calls(
 /// Makes call `number`, whose bytes begin at `at`, and appends its record. Gives where the next call begins; none behind one
 /// that is refused.
 fn write_call(
-    player: &mut Player,
+    session: &mut Session<'_>,
     bytes: &[u8],
     number: usize,
     at: usize,
     log: &mut Vec<u8>,
-    state: &mut [u64],
-    checkpoints: &mut [u64],
-    work: &mut [u64],
 ) -> Result<Option<usize>, AllocError>
-    requires at { at < length bytes.now }
-    requires room { room_told player.old.system.count (length state.old) (length checkpoints.old) (length work.old) ≡ good tt }
-    ensures log { IfOk result (λ next. Recorded bytes.now number at next player.old player.new state.old state.new checkpoints.old checkpoints.new log.old.items log.new.items) }
-    ensures behind { BehindSame player.old.system.count state.old state.new checkpoints.old checkpoints.new work.old work.new }
+    requires { at < length bytes.now }
+    ensures log { IfOk result (λ next. RecordedIn bytes.now number at next session.old session.new log.old.items log.new.items) }
+    ensures kept { Kept session.old session.new }
 {
     let call = match Call::decode(bytes, number, at) {
         Ok(call) => call,
@@ -88,11 +87,11 @@ fn write_call(
             return Ok(None);
         }
     };
-    let answer = player.obey(call, number, state, checkpoints, work);
+    let answer = session.obey(call, number);
     call.encode(log)?;
     match answer {
         Ok(_) => {
-            Stamp::of(player, state).encode(log)?;
+            Stamp::of(session).encode(log)?;
             Ok(Some(at + call.size()))
         }
         Err(_) => Ok(None),

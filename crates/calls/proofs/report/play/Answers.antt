@@ -13,32 +13,8 @@ use Rattle.calls.proofs.report.play.Goals as goal
 pub returns-in-Err-clause-refusal : goal.returns-in-Err-clause-refusal
 returns-in-Err-clause-refusal c = refused_ending c.args.bytes.now c.in-Err.refusal _ c.in-Err.ensures.answer
 
-pub returns-in-Ok-clause-refusal : goal.returns-in-Ok-clause-refusal
-returns-in-Ok-clause-refusal c =
-    let bytes = c.args.bytes.now in
-    let state = c.args.state.now in
-    let kept = c.args.checkpoints.now in
-    let work = c.args.work.now in
-    let e = c.in-Ok.ensures in
-    let made = c.make_calls.ensures in
-    let player = c.in-Ok.player in
-    let after = c.make_calls.new.self.player in
-    let text = string_bytes c.make_calls.new.text in
-    let begun = c.open_in_front.new.state in
-    let cleared = c.open_in_front.new.checkpoints in
-    let ends = c.make_calls.new.self.state.now in
-    let marks = c.make_calls.new.self.checkpoints.now in
-    let from = c.new-calls.result.at in
-    let starts = c.new-calls.ensures.at ∙ c.system_size.ensures in
-    let told_row = subst
-    (λ b. IfOk c.make_calls.result (RowTold (trace (rules_of player.system) (machine_of player begun cleared) 0 (row_in b from)) (machine_of player begun cleared) text
-    (machine_of after ends marks))) c.new-calls.ensures.bytes made.told in
-    IfOk-weaker c.make_calls.result _ _ (λ refusal told.
-    played_ending bytes player after state begun ends kept cleared marks text from e.left starts made.kept.system refusal told
-    ∙ ap (λ v. ending (trace_in bytes v)) e.answer) told_row
-
-pub returns-in-Ok-clause-left : goal.returns-in-Ok-clause-left
-returns-in-Ok-clause-left c =
+pub returns-in-Ok : goal.returns-in-Ok
+returns-in-Ok c =
     let bytes = c.args.bytes.now in
     let state = c.args.state.now in
     let kept = c.args.checkpoints.now in
@@ -60,12 +36,12 @@ returns-in-Ok-clause-left c =
     let over = IfOk-weaker c.make_calls.result _ _ (λ refusal told.
     subst (λ v. Left bytes v state ends kept marks work c.make_calls.new.self.work.now) e.answer
     (played bytes player after state begun ends kept cleared marks text from e.left starts made.kept.system refusal told)) told_row in
-    search (rules, over)
-
-pub returns-in-Ok-clause-behind : goal.returns-in-Ok-clause-behind
-returns-in-Ok-clause-behind c =
-    let e = c.in-Ok.ensures in
-    let outside = behind_then (ap (λ r. r.count) e.left.rules)
-    (opened_behind c.args.bytes.now c.in-Ok.player c.args.state.now c.open_in_front.new.state c.args.checkpoints.now c.open_in_front.new.checkpoints c.args.work.now e.left)
-    c.make_calls.ensures.kept.behind in
-    search (rules, outside)
+    let outside = behind_then (ap (λ r. r.count) e.left.rules) (opened_behind bytes player state begun kept cleared work e.left) made.kept.behind in
+    record {
+      text = search rules;
+      refusal = IfOk-weaker c.make_calls.result _ _ (λ refusal told.
+          played_ending bytes player after state begun ends kept cleared marks text from e.left starts made.kept.system refusal told
+          ∙ ap (λ v. ending (trace_in bytes v)) e.answer) told_row;
+      left = search (rules, over);
+      behind = search (rules, outside);
+    }

@@ -1,18 +1,16 @@
 -- What is told of the log is what is told of it from this call on.
 use Rattle.std.proofs.Common.{◌≡◌, ◌-◌, ◌≤◌, length}
-use Rattle.calls.specs.Checkpoints.{machine_of}
 use Rattle.calls.specs.Machine.{rules_of}
-use Rattle.calls.specs.Reports.{BehindSame}
+use Rattle.calls.specs.Sessions.{Kept, machine_in_session}
 use Rattle.logs.specs.Checking.{log_told}
 use Rattle.logs.proofs.checking.check_calls.Given as goal
 
 abbrev pub invariant-loop-at : goal.invariant-loop-at
 invariant-loop-at l =
     record {
-      told : log_told (rules_of l.initial.player.system) l.bytes (length l.bytes) 0 l.from (machine_of l.initial.player l.initial.state l.initial.checkpoints)
-          ≡ log_told (rules_of l.initial.player.system) l.bytes (length l.bytes - l.calls) l.calls l.at (machine_of l.player l.state l.checkpoints);
-      system : l.player.system ≡ l.initial.player.system;
-      behind : BehindSame l.initial.player.system.count l.initial.state l.state l.initial.checkpoints l.checkpoints l.initial.work l.work;
+      told : log_told (rules_of l.initial.session.player.system) l.bytes (length l.bytes) 0 l.from (machine_in_session l.initial.session)
+          ≡ log_told (rules_of l.initial.session.player.system) l.bytes (length l.bytes - l.calls) l.calls l.at (machine_in_session l.session);
+      kept : Kept l.initial.session l.session;
       further : l.calls ≤ l.at;
     }
 

@@ -1,5 +1,5 @@
 -- The system is opened, and its calls are checked.
-use Rattle.std.proofs.Common.{length, Err, ap, ◌∙◌}
+use Rattle.std.proofs.Common.{rules, length, Err, ap, ◌∙◌}
 use Rattle.std.proofs.lemmas.Result.{err_from_is_err_and}
 use Rattle.calls.specs.SystemBytes.{body_at}
 use Rattle.calls.proofs.Played.{opened_behind}
@@ -20,15 +20,16 @@ returns c =
     ∙ (λ i. log_told (opened.rules i) bytes (length bytes) 0 (from i) (opened.machine i))
     ∙ ap (log_in bytes) e.answer in
     let judged = judge bytes (λ j. (c.type_inv.bytes j).fits) (length c.args.state.now) (length c.args.checkpoints.now) (length c.args.work.now) c.check_calls.result answer in
+    let outside = behind_then (ap (λ r. r.count) opened.rules)
+    (opened_behind bytes player c.args.state.now c.open_in_front.new.state c.args.checkpoints.now c.open_in_front.new.checkpoints c.args.work.now opened)
+    c.check_calls.ensures.kept.behind in
     record {
       answer = answer;
       right = judged.right;
       accepts = judged.accepts;
       refuses = judged.refuses;
       altered = λ j i v in-stamp byte other. altered_told bytes (λ k. (c.type_inv.bytes k).fits) j i v byte other in-stamp;
-      behind = behind_then (ap (λ r. r.count) opened.rules)
-          (opened_behind bytes player c.args.state.now c.open_in_front.new.state c.args.checkpoints.now c.open_in_front.new.checkpoints c.args.work.now opened)
-          c.check_calls.ensures.behind;
+      behind = search (rules, outside);
     }
 
 pub returns-in_err-player-clause-right : goal.returns-in_err-player-clause-right
