@@ -13,8 +13,8 @@ pub record IsRead (bytes : List ℕ) (k at : ℕ) (call : Result Call Refusal) (
   pub next_is : IfOk call (λ call. to ≡ at + size_of call)
   pub further : at < to
 
--- a row in these bytes that comes to call k at `at` is over, or gives it with its number and goes on
-abbrev pub NextCall : List ℕ → ℕ → ℕ → Option (ℕ × Result Call Refusal) → List ℕ → ℕ → ℕ → Type 0
+-- a row in these bytes that comes to call k at `at` is over, or gives it with its number and its place and goes on
+abbrev pub NextCall : List ℕ → ℕ → ℕ → Option (ℕ × ℕ × Result Call Refusal) → List ℕ → ℕ → ℕ → Type 0
 NextCall bytes k at None bytes_after k_after at_after = length bytes ≤ at
 NextCall bytes k at (Some item) bytes_after k_after at_after =
-    (item.0 ≡ k) × IsRead bytes item.0 at item.1 at_after × (bytes_after ≡ bytes) × (k_after ≡ item.0 + 1)
+    (item.0 ≡ k) × IsRead bytes item.0 at item.2 at_after × (bytes_after ≡ bytes) × (k_after ≡ item.0 + 1) × (item.1 ≡ at)

@@ -19,4 +19,5 @@ pub use answer::Answer;
 pub use call::Call;
 pub use player::Player;
 pub use report::{Report, run_calls};
+pub use row::Row;
 pub use session::Session;

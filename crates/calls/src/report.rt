@@ -8,8 +8,7 @@ ghost use Rattle.calls.specs.Sessions.{GoesOnIn, Kept, StopsIn, machine_in_sessi
 ghost use Rattle.calls.specs.SystemBytes.{count_in};
 ghost use Rattle.calls.specs.Trace.{ending, lines, trace};
 
-use crate::row::Row;
-use crate::{Answer, Call, Player, Session};
+use crate::{Answer, Call, Player, Row, Session};
 use motion::Refusal;
 use std::alloc::{AllocError, Global};
 
@@ -93,7 +92,7 @@ impl Session<'_> {
         ensures told { IfOk result (λ refusal. RowTold (trace (rules_of self.old.player.system) (machine_in_session self.old) 0 (row_in calls.entry.bytes.now calls.entry.at)) (machine_in_session self.old) (string_bytes text.new) (machine_in_session self.new) refusal) }
         ensures kept { Kept self.old self.new }
     {
-        for (number, call) in calls {
+        for (number, _, call) in calls {
             match self.make_call(number, call) {
                 Ok(answer) => writeln!(text, "{answer}")?,
                 Err(refusal) => return Ok(Some(refusal)),

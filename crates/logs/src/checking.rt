@@ -72,7 +72,7 @@ fn check_calls(session: &mut Session<'_>, bytes: &[u8], from: usize) -> Result<A
 {
     let mut at = from;
     let mut calls = 0;
-    // Calls differ in length: where the next one begins is known behind this one.
+    // No `Row`: behind a call stands its stamp, and the next one begins behind that.
     while at < bytes.len() {
         match check_call(session, bytes, calls, at)? {
             ControlFlow::Continue(next) => at = next,

@@ -18,7 +18,7 @@ pub(crate) struct Stamp {
 }
 
 impl Stamp {
-    /// Gives the stamp of a player, and of the words that are lent to it.
+    /// Gives the stamp of a session.
     pub(crate) fn of(session: &Session<'_>) -> Stamp
         ensures time { result.time ≡ time_word session.now.player.time }
         ensures sum { result.sum ≡ state_sum session.now.player.system.count (machine_in_session session.now).state }

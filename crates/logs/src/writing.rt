@@ -1,9 +1,10 @@
 //! Writing a log of calls that are made.
-ghost use Rattle.std.specs.Prelude.{◌≡◌, ◌<◌, [], ◌∷◌, ◌++◌, length, IfSome, IfOk, vec_items, OnOk, if◌then◌else◌, ◌==◌};
+ghost use Rattle.std.specs.Prelude.{◌≡◌, ℕ, List, slice_index, [], ◌∷◌, ◌++◌, length, IfSome, IfOk, vec_items, OnOk, if◌then◌else◌, ◌==◌};
 ghost use Rattle.std.specs.Option.{option_map};
 ghost use Rattle.motion.specs.Refusals.{number_of};
 ghost use Rattle.calls.specs.Machine.{rules_of};
 ghost use Rattle.calls.specs.Reports.{BehindSame, opening_told};
+ghost use Rattle.calls.specs.Rows.{IsRead};
 ghost use Rattle.calls.specs.Sessions.{Kept, machine_in_session};
 ghost use Rattle.calls.specs.SystemBytes.{count_in};
 ghost use Rattle.logs.specs.InSessions.{RecordedIn};
@@ -11,9 +12,10 @@ ghost use Rattle.logs.specs.Logs.{Log};
 ghost use Rattle.logs.specs.Writing.{written_from, written_in};
 
 use crate::stamp::Stamp;
-use calls::{Call, Player, Session};
+use calls::{Call, Player, Row, Session};
 use motion::Refusal;
 use std::alloc::{AllocError, Global};
+use std::ops::ControlFlow;
 
 /// Writes the log of the calls behind the system in front of `bytes`, as they are made; nothing where the system is refused.
 /// Where memory for the log is wanting, some of the calls may have been made. The slices are lent as to `Player::open`, as
@@ -54,37 +56,31 @@ fn write_calls(
     ensures log { OnOk result (log.new.items ≡ log.old.items ++ written_from (rules_of session.old.player.system) bytes.now (length bytes.now) 0 from (machine_in_session session.old)) }
     ensures kept { Kept session.old session.new }
 {
-    let mut at = from;
-    let mut number = 0;
-    // Calls differ in length: where the next one begins is known behind this one.
-    while at < bytes.len() {
-        match write_call(session, bytes, number, at, log)? {
-            Some(next) => at = next,
-            None => return Ok(()),
+    for (number, at, call) in Row::new(bytes, from) {
+        if write_call(session, number, call, bytes[at], log)?.is_break() {
+            break;
         }
-        number += 1;
     }
     Ok(())
 }
 
-/// Makes call `number`, whose bytes begin at `at`, and appends its record. Gives where the next call begins; none behind one
+/// Makes call `number`, whose bytes begin with `first`, if it could be read, and appends its record. The log ends with a call
 /// that is refused.
 fn write_call(
     session: &mut Session<'_>,
-    bytes: &[u8],
     number: usize,
-    at: usize,
+    call: Result<Call, Refusal>,
+    first: u8,
     log: &mut Vec<u8>,
-) -> Result<Option<usize>, AllocError>
-    requires { at < length bytes.now }
-    ensures log { IfOk result (λ next. RecordedIn bytes.now number at next session.old session.new log.old.items log.new.items) }
+) -> Result<ControlFlow<()>, AllocError>
+    ensures log { IfOk result (λ flow. (bytes : List ℕ) (at to : ℕ) → IsRead bytes number at call to → first ≡ slice_index bytes at → RecordedIn bytes number at to flow session.old session.new log.old.items log.new.items) }
     ensures kept { Kept session.old session.new }
 {
-    let call = match Call::decode(bytes, number, at) {
+    let call = match call {
         Ok(call) => call,
         Err(refusal) => {
-            write_fault(bytes[at], refusal, log)?;
-            return Ok(None);
+            write_fault(first, refusal, log)?;
+            return Ok(ControlFlow::Break(()));
         }
     };
     let answer = session.obey(call, number);
@@ -92,9 +88,9 @@ fn write_call(
     match answer {
         Ok(_) => {
             Stamp::of(session).encode(log)?;
-            Ok(Some(at + call.size()))
+            Ok(ControlFlow::Continue(()))
         }
-        Err(_) => Ok(None),
+        Err(_) => Ok(ControlFlow::Break(())),
     }
 }
 
