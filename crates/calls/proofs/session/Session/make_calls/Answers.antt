@@ -36,9 +36,6 @@ returns-in-Err-clause-told c =
     ∙ stops.trace_off most in
     told_at (told_same l.invariant.told _ off) (machine_untouched stops.same)
 
-pub returns-in-Err-clause-kept : goal.returns-in-Err-clause-kept
-returns-in-Err-clause-kept c = kept_then c.loop-number.invariant.kept c.make_call.ensures.kept
-
 pub loop-number-preserved : goal.loop-number-preserved
 loop-number-preserved c =
     let l = c.loop-number in
