@@ -4,7 +4,7 @@ ghost use Rattle.std.specs.Prelude.{◌≡◌};
 use motion::System;
 
 /// A system that is played, and its time. The words of its state and of its checkpoints are lent to each call.
-#[derive(Clone, Copy)]
+#[derive(Clone, Copy, PartialEq, Eq, Debug)]
 pub struct Player {
     pub(crate) system: System,
     pub(crate) time: i64,

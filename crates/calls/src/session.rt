@@ -6,6 +6,8 @@ ghost use Rattle.calls.specs.SystemBytes.{room_told};
 use crate::Player;
 
 /// A player with the words that are lent to it, which suffice for its system.
+// It is written as a literal where a player was opened: of slices that a function hands on within its result, and that it may
+// also refuse, a caller's proof knows only the lengths. So `open`, `obey` and whole rows take the slices one by one.
 #[derive(Drop)]
 pub struct Session<'a> {
     pub player: Player,

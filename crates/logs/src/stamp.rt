@@ -50,6 +50,7 @@ impl Stamp {
 }
 
 /// Gives the check sum of a player's state.
+// It takes the slice and no session: what lies behind a field is not known to be words, and the sum is one of words.
 fn state_sum(player: &Player, state: &[u64]) -> u64
     requires { 6 * player.now.system.count ≤ length state.now }
     ensures { result ≡ state_sum player.now.system.count (state_of player.now.system.count state.now) }
