@@ -24,6 +24,7 @@ enum Call {
 }
 
 /// The built-in system: two bodies of masses 2 and 1, with the least softening.
+// Tests of `motion` and `shares` make it as well: one function for all would be a public one for tests alone.
 fn pair() -> Option<System> {
     let masses = [Mass::new(2)?, Mass::new(1)?];
     System::new(Softening::new(Softening::LEAST)?, &masses).ok()
