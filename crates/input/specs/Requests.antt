@@ -1,4 +1,5 @@
 -- What the words of a command line ask for.
+-- Assumes nothing: these are definitions.
 use Rattle.std.specs.Prelude.{◌≡◌, ◌≢◌, ◌∷◌, ℕ, List, [], true, ◌==◌, codes, string_bytes, String}
 use Rattle.std.specs.List.{starts_with}
 use Rattle.std.specs.declared.alloc.Global.{Global}

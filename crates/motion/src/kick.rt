@@ -80,7 +80,7 @@ impl Mover<'_> {
         ensures { AllKicked self.now.system.now self.now.direction self.now.system.now.count state.old state.new }
     {
         let mut rest = roots;
-        // By number: parts of the lent words are lent on.
+        // By number: nothing of a body but its number is wanted here.
         for i in 0..self.system.count {
             let (row, later) = rest.split_at_mut(i);
             self.exchange_row(i, state, row);

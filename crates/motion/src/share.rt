@@ -59,7 +59,7 @@ impl Mover<'_> {
         requires state { length state.old ≡ 6 * self.now.system.now.count }
         ensures { Pulled self.now.system.now self.now.direction b self.now.system.now.count state.old state.new }
     {
-        // By number: parts of the lent words are lent on.
+        // By number: nothing of a body but its number is wanted here.
         for j in 0..self.system.count {
             self.receive(b, j, state);
         }
@@ -70,7 +70,7 @@ impl Mover<'_> {
         requires { length state.old ≡ 6 * self.now.system.now.count }
         ensures { ShareKicked self.now.system.now self.now.direction share.now self.now.system.now.count state.old state.new }
     {
-        // By number: parts of the lent words are lent on.
+        // By number: nothing of a body but its number is wanted here.
         for b in 0..self.system.count {
             if in_share(share, b) {
                 self.pull(b, state);

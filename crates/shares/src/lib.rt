@@ -105,7 +105,8 @@ pub fn together(
 }
 
 /// Makes one shared step.
-// The four slices are passed one by one: no proof is made yet of a call that is lent two fields behind one reference.
+// The four slices are passed one by one: a struct of them would serve this function and `gather` alone, and the contracts of
+// both would have to keep four references.
 fn share_step(
     system: &System,
     shared: SharedStep,
@@ -245,44 +246,32 @@ mod tests {
         Ok(())
     }
 
+    // Works out both bodies.
+    fn work_out_both(
+        system: &System,
+        state: &[u64],
+        work: &mut [u64],
+        rows: &mut [u8],
+    ) -> Result<usize, Refusal> {
+        work_out(system, &[true, true], Direction::Ahead, state, work, rows)
+    }
+
     #[test]
     fn short_slices_are_refused(rt: HostRuntime) -> Result<(), Fail> {
         let system = pair().ok_or("no pair")?;
         let state = [1; 12];
         let mut work = [2; 12];
         let mut rows = [3; 97];
-        let both = [true, true];
         assert_eq!(rt;
-            work_out(
-                &system,
-                &both,
-                Direction::Ahead,
-                &state[0..11],
-                &mut work,
-                &mut rows,
-            ),
+            work_out_both(&system, &state[0..11], &mut work, &mut rows),
             Err(Refusal::StateShort)
         );
         assert_eq!(rt;
-            work_out(
-                &system,
-                &both,
-                Direction::Ahead,
-                &state,
-                &mut work[0..11],
-                &mut rows,
-            ),
+            work_out_both(&system, &state, &mut work[0..11], &mut rows),
             Err(Refusal::WorkShort)
         );
         assert_eq!(rt;
-            work_out(
-                &system,
-                &both,
-                Direction::Ahead,
-                &state,
-                &mut work,
-                &mut rows,
-            ),
+            work_out_both(&system, &state, &mut work, &mut rows),
             Err(Refusal::RowsShort)
         );
         assert_eq!(rt; work, [2; 12]);
@@ -317,27 +306,28 @@ mod tests {
         Ok(())
     }
 
+    // Three steps on, one back and one on: the first computer has nobody, then the second body twice, all, and nobody again.
+    fn changing_shares() -> [SharedStep; 5] {
+        let nobody = SharedStep {
+            direction: Direction::Ahead,
+            first: [false; 64],
+        };
+        let mut other = nobody;
+        other.first[1] = true;
+        let everyone = SharedStep {
+            direction: Direction::Behind,
+            first: [true; 64],
+        };
+        [nobody, other, other, everyone, nobody]
+    }
+
     #[test]
     fn two_computers_hold_the_state_of_one(rt: HostRuntime) -> Result<(), Fail> {
         let system = pair().ok_or("no pair")?;
         let mut first = [0, 5, 7, 0, 0, 0, FAR, 0, 0, 0, 9, 0];
         let mut second = first;
         let mut alone = first;
-        let mut one = [false; 64];
-        let nobody = SharedStep {
-            direction: Direction::Ahead,
-            first: one,
-        };
-        one[1] = true;
-        let other = SharedStep {
-            direction: Direction::Ahead,
-            first: one,
-        };
-        let everyone = SharedStep {
-            direction: Direction::Behind,
-            first: [true; 64],
-        };
-        let steps = [nobody, other, other, everyone, nobody];
+        let steps = changing_shares();
         together(
             &system,
             &steps,

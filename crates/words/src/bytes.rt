@@ -17,6 +17,7 @@ pub fn write_number(bytes: &mut [u8], number: u64)
 {
     let mut rest = number;
     for byte in bytes.iter_mut() {
+        // The low byte: the bytes that follow hold the rest.
         *byte = (rest % 256) as u8;
         rest /= 256;
     }
