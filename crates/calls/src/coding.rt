@@ -33,6 +33,7 @@ impl Call {
         ensures items { bytes.new.items ≡ (if is_ok result then bytes.old.items ++ bytes_of_call self else bytes.old.items) }
         ensures undone { OnOk result ((k : ℕ) (more : List ℕ) → call_at (bytes.new.items ++ more) k (length bytes.old.items) ≡ good self) }
     {
+        // The numbers of the kinds are those of the file format, as in `decode`.
         match self {
             Call::Forward(steps) => bytes.extend_from_slice(&with_steps(1, steps)),
             Call::Back(steps) => bytes.extend_from_slice(&with_steps(2, steps)),

@@ -7,7 +7,8 @@ use crate::Player;
 
 /// A player with the words that are lent to it, which suffice for its system.
 // It is written as a literal where a player was opened: of slices that a function hands on within its result, and that it may
-// also refuse, a caller's proof knows only the lengths. So `open`, `obey` and whole rows take the slices one by one.
+// also refuse, a caller's proof knows only the lengths. `open`, `Player::obey` and whole rows take the slices one by one, since
+// they refuse those that are too short.
 #[derive(Drop)]
 pub struct Session<'a> {
     pub player: Player,

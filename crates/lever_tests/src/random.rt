@@ -57,6 +57,8 @@ impl Random {
     }
 
     /// Gives a call to a system of so many bodies, now and then one that is to be refused.
+    // Not one function with `any_call` of `coding` and that of `log_tests`: each draws its numbers in an order of its own, and
+    // another order would be another test.
     pub fn call(&mut self, bodies: u8) -> Call {
         let steps = self.below(6) as u32;
         let mark = match self.below(4) {

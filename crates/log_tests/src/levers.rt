@@ -31,6 +31,7 @@ pub struct Lever {
     /// The system's end, and then that of each call's record.
     pub stops: Vec<Stop>,
     /// The times that were kept; the last of a number holds.
+    // A list and no map: a random call picks one by its place.
     kept: Vec<Kept>,
 }
 
