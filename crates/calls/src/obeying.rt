@@ -29,6 +29,7 @@ pub(crate) fn check_room(
     if checkpoints < CHECKPOINTS * checkpoint_size(system) {
         return Err(Refusal::CheckpointsShort);
     }
+    // The number of pairs, as in `motion`: a public function for this product would have a contract longer than it is.
     if work < count * count.saturating_sub(1) / 2 {
         return Err(Refusal::WorkShort);
     }
@@ -71,6 +72,8 @@ impl Player {
     }
 
     /// Keeps the time and the state under a number.
+    // Here, in `read` and in what `obey` calls each function is lent the slices that it is about, and no session: what is not
+    // lent, or not to be written, stays, and no clause has to say so.
     fn mark(
         &self,
         mark: u8,

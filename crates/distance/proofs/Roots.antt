@@ -18,9 +18,6 @@ pub root_unique : (q r s : ℕ) → WholeRoot q r → WholeRoot q s → r ≡ s
 root_unique q r s h k =
     le_antisymm (root_least q r s h.square_within k.next_beyond) (root_least q s r k.square_within h.next_beyond)
 
-double : (h : ℕ) → (2 * h) * (2 * h) ≡ 4 * (h * h)
-double h = omega arith
-
 by_quarter : (q h : ℕ) → WholeRoot (q / 4) h → WholeRoot q (root_by_quarter q h)
 by_quarter q h root =
     elim (leb_tells ((2 * h + 1) * (2 * h + 1)) q) [

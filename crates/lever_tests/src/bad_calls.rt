@@ -3,7 +3,6 @@ use crate::lent::Lent;
 use crate::sky::Sky;
 use calls::Call;
 use motion::Refusal;
-use std::alloc::Global;
 use std::process::Abort;
 use std::test::*;
 
@@ -18,12 +17,12 @@ const WHOLE: [&'static [u8]; 5] = [
 
 /// Looks how bytes behind the pair are refused as a call, and that the lent words are those of the opening.
 fn check_bytes(
-    rt: &impl Abort,
-    heap: Global,
+    rt: &(impl Abort + AllocGlobal),
     call: &[u8],
     refusal: Refusal,
     text: &str,
 ) -> Result<(), Fail> {
+    let heap = rt.alloc();
     let mut bytes = Sky::pair(heap)?.bytes(heap)?;
     bytes.extend_from_slice(call)?;
     assert_eq!(rt;
@@ -43,13 +42,7 @@ fn check_bytes(
 #[test]
 fn kinds_that_there_are_not_are_refused(rt: HostRuntime) -> Result<(), Fail> {
     for kind in [0, 6, 255] {
-        check_bytes(
-            &rt,
-            rt.alloc(),
-            &[kind],
-            Refusal::Kind(0),
-            "refused 4 at 0\n",
-        )?;
+        check_bytes(&rt, &[kind], Refusal::Kind(0), "refused 4 at 0\n")?;
     }
     Ok(())
 }
@@ -58,16 +51,11 @@ fn kinds_that_there_are_not_are_refused(rt: HostRuntime) -> Result<(), Fail> {
 fn calls_that_are_cut_off_are_refused(rt: HostRuntime) -> Result<(), Fail> {
     let heap = rt.alloc();
     for whole in WHOLE {
+        // Each length that it may be cut off to: a number that is told, and no index.
         for cut in 1..whole.len() {
             let end = Sky::PAIR_SIZE + cut;
             let text = format!(in heap; "refused 1 at {end}\n")?;
-            check_bytes(
-                &rt,
-                heap,
-                &whole[0..cut],
-                Refusal::Length(end),
-                text.as_str(),
-            )?;
+            check_bytes(&rt, &whole[0..cut], Refusal::Length(end), text.as_str())?;
         }
     }
     Ok(())
@@ -141,7 +129,8 @@ const BAD_CALLS: [BadCalls; 6] = [
 ];
 
 /// Looks how a call is refused, that it changes no word, and that a call behind it is not made.
-fn check_call(rt: &impl Abort, heap: Global, calls: &BadCalls, bad: Call) -> Result<(), Fail> {
+fn check_call(rt: &(impl Abort + AllocGlobal), calls: &BadCalls, bad: Call) -> Result<(), Fail> {
+    let heap = rt.alloc();
     let mut bytes = Sky::pair(heap)?.bytes(heap)?;
     let mut lent = Lent::new(heap)?;
     let mut player = lent.open(bytes.as_slice())?;
@@ -169,7 +158,7 @@ fn check_call(rt: &impl Abort, heap: Global, calls: &BadCalls, bad: Call) -> Res
 fn calls_are_refused(rt: HostRuntime) -> Result<(), Fail> {
     for calls in BAD_CALLS.iter() {
         for bad in calls.bad.iter() {
-            check_call(&rt, rt.alloc(), calls, *bad)?;
+            check_call(&rt, calls, *bad)?;
         }
     }
     Ok(())

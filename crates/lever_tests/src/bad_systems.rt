@@ -2,7 +2,6 @@
 use crate::lent::Lent;
 use crate::sky::Sky;
 use motion::Refusal;
-use std::alloc::Global;
 use std::process::Abort;
 use std::test::*;
 
@@ -50,12 +49,12 @@ const SPOILED: [Spoiled; 4] = [
 
 /// Looks how bytes are refused as a system, alone and in front of calls, and that no lent word is changed.
 fn check_system(
-    rt: &impl Abort,
-    heap: Global,
+    rt: &(impl Abort + AllocGlobal),
     bytes: &[u8],
     refusal: Refusal,
     text: &str,
 ) -> Result<(), Fail> {
+    let heap = rt.alloc();
     let mut lent = Lent::new(heap)?;
     let before = lent.clone()?;
     assert_eq!(rt; lent.open(bytes).err(), Some(refusal));
@@ -68,21 +67,26 @@ fn check_system(
 }
 
 /// Spoils the pair by a row. The fault is told before bytes that are missing behind it.
-fn check_spoiled(rt: &impl Abort, heap: Global, spoiled: &Spoiled, row: &[u8]) -> Result<(), Fail> {
+fn check_spoiled(
+    rt: &(impl Abort + AllocGlobal),
+    spoiled: &Spoiled,
+    row: &[u8],
+) -> Result<(), Fail> {
+    let heap = rt.alloc();
     let mut bytes = Sky::pair(heap)?.bytes(heap)?;
     for (byte, other) in bytes.iter_mut().skip(spoiled.at).zip(row.iter()) {
         *byte = *other;
     }
-    check_system(rt, heap, bytes.as_slice(), spoiled.refusal, spoiled.text)?;
+    check_system(rt, bytes.as_slice(), spoiled.refusal, spoiled.text)?;
     bytes.truncate(spoiled.at.saturating_add(row.len()));
-    check_system(rt, heap, bytes.as_slice(), spoiled.refusal, spoiled.text)
+    check_system(rt, bytes.as_slice(), spoiled.refusal, spoiled.text)
 }
 
 #[test]
 fn spoiled_systems_are_refused(rt: HostRuntime) -> Result<(), Fail> {
     for spoiled in SPOILED.iter() {
         for row in spoiled.rows.iter() {
-            check_spoiled(&rt, rt.alloc(), spoiled, row)?;
+            check_spoiled(&rt, spoiled, row)?;
         }
     }
     Ok(())
@@ -91,13 +95,13 @@ fn spoiled_systems_are_refused(rt: HostRuntime) -> Result<(), Fail> {
 #[test]
 fn systems_that_are_cut_off_are_refused(rt: HostRuntime) -> Result<(), Fail> {
     let heap = rt.alloc();
+    // Each length that it may be cut off to: a number that is told, and no index.
     for length in 0..Sky::PAIR_SIZE {
         let mut bytes = Sky::pair(heap)?.bytes(heap)?;
         bytes.truncate(length);
         let text = format!(in heap; "refused 1 at {length}\n")?;
         check_system(
             &rt,
-            heap,
             bytes.as_slice(),
             Refusal::Length(length),
             text.as_str(),

@@ -3,7 +3,6 @@ use crate::lent::Lent;
 use crate::sky::Sky;
 use calls::Call;
 use motion::Refusal;
-use std::alloc::Global;
 use std::process::Abort;
 use std::test::*;
 
@@ -48,12 +47,12 @@ const CALLS: [Call; 5] = [
 
 /// Looks what is told of slices at each kind of call and at the opening, and that a refusal changes no word.
 fn check_room(
-    rt: &impl Abort,
-    heap: Global,
+    rt: &(impl Abort + AllocGlobal),
     room: Room,
     refusal: Option<Refusal>,
     text: &str,
 ) -> Result<(), Fail> {
+    let heap = rt.alloc();
     let bytes = Sky::uniform(heap, 1 << 30, 9, room.count)?.bytes(heap)?;
     let mut lent = Lent::new(heap)?;
     let mut player = lent.open(bytes.as_slice())?;
@@ -76,7 +75,7 @@ fn check_room(
 #[test]
 fn slices_that_suffice_exactly_are_taken(rt: HostRuntime) -> Result<(), Fail> {
     for room in EXACT {
-        check_room(&rt, rt.alloc(), room, None, "")?;
+        check_room(&rt, room, None, "")?;
     }
     Ok(())
 }
@@ -88,30 +87,17 @@ fn short_slices_are_refused(rt: HostRuntime) -> Result<(), Fail> {
         let mut short = room;
         if let Some(work) = room.work.checked_sub(1) {
             short.work = work;
-            check_room(
-                &rt,
-                heap,
-                short,
-                Some(Refusal::WorkShort),
-                "refused 8 at 2\n",
-            )?;
+            check_room(&rt, short, Some(Refusal::WorkShort), "refused 8 at 2\n")?;
         }
         short.checkpoints = room.checkpoints.saturating_sub(1);
         check_room(
             &rt,
-            heap,
             short,
             Some(Refusal::CheckpointsShort),
             "refused 8 at 1\n",
         )?;
         short.state = room.state.saturating_sub(1);
-        check_room(
-            &rt,
-            heap,
-            short,
-            Some(Refusal::StateShort),
-            "refused 8 at 0\n",
-        )?;
+        check_room(&rt, short, Some(Refusal::StateShort), "refused 8 at 0\n")?;
     }
     Ok(())
 }

@@ -4,7 +4,6 @@ use crate::random::Random;
 use crate::sky::Sky;
 use calls::{Answer, Call, Player};
 use motion::{Refusal, Turn};
-use std::alloc::Global;
 use std::collections::BTreeMap;
 use std::process::Abort;
 use std::test::*;
@@ -29,6 +28,7 @@ struct Lesson {
 
 impl Lesson {
     /// Tells what a read should answer, if there is such a body and axis.
+    // Not one function with that of the program `run`: a test works it out by itself.
     fn reading(&self, body: u8, axis: u8) -> Option<Answer> {
         let (bodies, _) = self.lent.state.as_slice().as_chunks::<6>();
         let bodies = bodies.get(..usize::from(self.count))?;
@@ -89,11 +89,11 @@ impl Lesson {
     /// Looks whether the words are those of the time, by turns from the opening, and what lies behind them stays.
     fn check_time(
         &self,
-        rt: &impl Abort,
-        heap: Global,
+        rt: &(impl Abort + AllocGlobal),
         sky: &Sky,
         opened: &Lent,
     ) -> Result<(), Fail> {
+        let heap = rt.alloc();
         let seed = self.seed;
         let mut there = opened.clone()?;
         let steps = self.time.unsigned_abs();
@@ -104,6 +104,7 @@ impl Lesson {
         };
         sky.system(heap)?.turn(turn, there.state.as_mut_slice(), there.work.as_mut_slice())?;
         assert_eq!(rt; &self.lent.state, &there.state, "seed {seed}");
+        // By number, which is all that is wanted of an axis.
         for axis in 0..3 {
             assert_eq!(rt;
                 self.lent.momentum(self.count, axis),
@@ -117,7 +118,8 @@ impl Lesson {
 }
 
 /// Opens a system, and looks what the lent words hold.
-fn open(rt: &impl Abort, heap: Global, seed: u64, sky: &Sky) -> Result<Lesson, Fail> {
+fn open(rt: &(impl Abort + AllocGlobal), seed: u64, sky: &Sky) -> Result<Lesson, Fail> {
+    let heap = rt.alloc();
     let count = sky.count()?;
     let before = Lent::new(heap)?;
     let mut lent = before.clone()?;
@@ -137,28 +139,30 @@ fn open(rt: &impl Abort, heap: Global, seed: u64, sky: &Sky) -> Result<Lesson, F
 }
 
 /// Makes a random row of calls to a random system, and looks at each call and at the end.
-fn play(rt: &impl Abort, heap: Global, seed: u64) -> Result<(), Fail> {
+fn play(rt: &(impl Abort + AllocGlobal), seed: u64) -> Result<(), Fail> {
+    let heap = rt.alloc();
     let mut random = Random::new(seed);
     let sky = Sky::random(heap, &mut random)?;
-    let mut lesson = open(rt, heap, seed, &sky)?;
+    let mut lesson = open(rt, seed, &sky)?;
     let opened = lesson.lent.clone()?;
     for number in 0..60 {
         let call = random.call(lesson.count);
         lesson.make(rt, call, number)?;
     }
-    lesson.check_time(rt, heap, &sky, &opened)
+    lesson.check_time(rt, &sky, &opened)
 }
 
 #[test]
 fn the_state_belongs_to_the_time(rt: HostRuntime) -> Result<(), Fail> {
     for seed in 0..200 {
-        play(&rt, rt.alloc(), seed)?;
+        play(&rt, seed)?;
     }
     Ok(())
 }
 
 /// Runs a random row of calls, and looks whether the text and the words are those of its calls made one by one.
-fn run(rt: &impl Abort, heap: Global, seed: u64) -> Result<(), Fail> {
+fn run(rt: &(impl Abort + AllocGlobal), seed: u64) -> Result<(), Fail> {
+    let heap = rt.alloc();
     let mut random = Random::new(seed);
     let sky = Sky::random(heap, &mut random)?;
     let mut bytes = sky.bytes(heap)?;
@@ -191,7 +195,7 @@ fn run(rt: &impl Abort, heap: Global, seed: u64) -> Result<(), Fail> {
 #[test]
 fn a_row_tells_what_its_calls_answer(rt: HostRuntime) -> Result<(), Fail> {
     for seed in 0..200 {
-        run(&rt, rt.alloc(), seed)?;
+        run(&rt, seed)?;
     }
     Ok(())
 }

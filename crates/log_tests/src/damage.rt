@@ -2,7 +2,6 @@
 use crate::levers::{Stop, log_of, random_lever, verdict, worked_pair};
 use logs::{Accepted, check_log, write_log};
 use motion::Refusal;
-use std::alloc::Global;
 use std::process::Abort;
 use std::test::Fail;
 
@@ -23,6 +22,7 @@ fn flip(log: &mut Vec<u8>, at: usize, by: u8) {
 /// Changes each byte of each time and check sum.
 fn check_stamps(rt: &impl Abort, log: &mut Vec<u8>, stops: &[Stop]) {
     for (call, stop) in stops.iter().skip(1).enumerate() {
+        // Counted from the end, since the number also says which bit of the byte is changed.
         for k in 1..17 {
             let at = stop.end.saturating_sub(k);
             check_changed(rt, log, at, 1 << (k % 8), Refusal::Record(call));
@@ -59,6 +59,7 @@ fn cut_logs_are_told(rt: HostRuntime) -> Result<(), Fail> {
         let lever = random_lever(rt.alloc(), seed)?;
         let log = log_of(rt.alloc(), lever.bytes.as_slice())?;
         assert_eq!(rt; log.len(), lever.last().end);
+        // Each length that it may be cut off to: a number that is told, and no index.
         for length in 0..log.len() {
             let front = log.as_slice().get(0..length).unwrap_or(&[]);
             assert_eq!(rt; verdict(front), cut_told(lever.stops.as_slice(), length));
@@ -91,7 +92,8 @@ fn the_first_of_two_faults_is_told(rt: HostRuntime) -> Result<(), Fail> {
 }
 
 /// Checks that bytes behind the refused call at the end of these bytes are told.
-fn check_more(rt: &impl Abort, heap: Global, bytes: &[u8], call: &[u8]) -> Result<(), Fail> {
+fn check_more(rt: &(impl Abort + AllocGlobal), bytes: &[u8], call: &[u8]) -> Result<(), Fail> {
+    let heap = rt.alloc();
     let mut bytes = bytes.to_vec(heap)?;
     bytes.extend_from_slice(call)?;
     let mut log = log_of(heap, bytes.as_slice())?;
@@ -109,12 +111,12 @@ fn bytes_behind_a_refused_call_are_told(rt: HostRuntime) -> Result<(), Fail> {
     for seed in 54..60 {
         let lever = random_lever(rt.alloc(), seed)?;
         let bytes = lever.bytes.as_slice();
-        check_more(&rt, rt.alloc(), bytes, &[0])?;
-        check_more(&rt, rt.alloc(), bytes, &[255])?;
-        check_more(&rt, rt.alloc(), bytes, &[3, 16])?;
-        check_more(&rt, rt.alloc(), bytes, &[4, 15])?;
-        check_more(&rt, rt.alloc(), bytes, &[5, lever.bodies, 0])?;
-        check_more(&rt, rt.alloc(), bytes, &[5, 0, 3])?;
+        check_more(&rt, bytes, &[0])?;
+        check_more(&rt, bytes, &[255])?;
+        check_more(&rt, bytes, &[3, 16])?;
+        check_more(&rt, bytes, &[4, 15])?;
+        check_more(&rt, bytes, &[5, lever.bodies, 0])?;
+        check_more(&rt, bytes, &[5, 0, 3])?;
     }
     Ok(())
 }

@@ -2,7 +2,6 @@
 use crate::levers::{Lever, log_of, random_lever, verdict, worked_pair};
 use logs::Accepted;
 use motion::Refusal;
-use std::alloc::Global;
 use std::process::Abort;
 use std::test::Fail;
 use words::number_in;
@@ -57,13 +56,13 @@ fn what_is_accepted_is_told_in_a_line(rt: HostRuntime) -> Result<(), Fail> {
 /// Writes the log of a lever with more bytes behind it, and checks that it has so many bytes more than its records, and is
 /// accepted with this refusal.
 fn check_ended(
-    rt: &impl Abort,
-    heap: Global,
+    rt: &(impl Abort + AllocGlobal),
     lever: &Lever,
     more: &[u8],
     taken: usize,
     refusal: Option<Refusal>,
 ) -> Result<(), Fail> {
+    let heap = rt.alloc();
     let mut bytes = lever.bytes.clone()?;
     bytes.extend_from_slice(more)?;
     let log = log_of(heap, bytes.as_slice())?;
@@ -89,16 +88,16 @@ fn logs_of_random_levers_are_accepted(rt: HostRuntime) -> Result<(), Fail> {
         let kind = Some(Refusal::Kind(n));
         let mark = Some(Refusal::Checkpoint(n));
         let absent = Some(Refusal::Absent(n));
-        check_ended(&rt, rt.alloc(), &lever, &[], 0, None)?;
+        check_ended(&rt, &lever, &[], 0, None)?;
         // A call that is cut off is not in the log.
-        check_ended(&rt, rt.alloc(), &lever, &[1, 3, 0, 0], 0, None)?;
-        check_ended(&rt, rt.alloc(), &lever, &[0, 1], 1, kind)?;
-        check_ended(&rt, rt.alloc(), &lever, &[6], 1, kind)?;
-        check_ended(&rt, rt.alloc(), &lever, &[3, 16, 3, 0], 2, mark)?;
-        check_ended(&rt, rt.alloc(), &lever, &[4, 15, 5], 2, mark)?;
-        check_ended(&rt, rt.alloc(), &lever, &[4, 255], 2, mark)?;
-        check_ended(&rt, rt.alloc(), &lever, &[5, b, 0, 9], 3, absent)?;
-        check_ended(&rt, rt.alloc(), &lever, &[5, 0, 3], 3, absent)?;
+        check_ended(&rt, &lever, &[1, 3, 0, 0], 0, None)?;
+        check_ended(&rt, &lever, &[0, 1], 1, kind)?;
+        check_ended(&rt, &lever, &[6], 1, kind)?;
+        check_ended(&rt, &lever, &[3, 16, 3, 0], 2, mark)?;
+        check_ended(&rt, &lever, &[4, 15, 5], 2, mark)?;
+        check_ended(&rt, &lever, &[4, 255], 2, mark)?;
+        check_ended(&rt, &lever, &[5, b, 0, 9], 3, absent)?;
+        check_ended(&rt, &lever, &[5, 0, 3], 3, absent)?;
     }
     Ok(())
 }

@@ -1,4 +1,6 @@
 //! A body's six words: for each axis its position and behind it its momentum.
+// They come as slices of six, and no arrays: a part that is lent to be written is a slice, and as an array it would be an
+// `Option` that always is there.
 ghost use Rattle.std.specs.Prelude.{◌≡◌, ◌*◌, length, slice_index};
 ghost use Rattle.distance.specs.Axes.{by_axis, along};
 ghost use Rattle.motion.specs.Changes.{Kicked, Drifted};

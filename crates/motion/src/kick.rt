@@ -13,6 +13,8 @@ use impulse::{Body, Impulse, impulse_on};
 
 impl System {
     /// Gives a body's mass and position.
+    // That a body is below the count is asked here and by what calls this: a type for such numbers could not name the system
+    // whose bodies it counts.
     fn body(&self, body: usize, state: &[u64]) -> Body
         requires body { body < self.now.count }
         requires state { length state.now ≡ 6 * self.now.count }

@@ -66,12 +66,10 @@ impl System {
         ensures timed { OnOk result (Timed self.now turns.now (state_of self.now.count state.old) (state_of self.now.count state.new)) }
     {
         let pairs = self.count * (self.count - 1) / 2;
-        let Some((words, _behind)) = state.split_at_mut_checked(6 * self.count) else {
-            return Err(Refusal::StateShort);
-        };
-        let Some((roots, _behind)) = work.split_at_mut_checked(pairs) else {
-            return Err(Refusal::WorkShort);
-        };
+        let halves = state.split_at_mut_checked(6 * self.count);
+        let (words, _behind) = halves.ok_or(Refusal::StateShort)?;
+        let halves = work.split_at_mut_checked(pairs);
+        let (roots, _behind) = halves.ok_or(Refusal::WorkShort)?;
         self.make_turns(turns, words, roots);
         Ok(())
     }
@@ -96,9 +94,8 @@ impl System {
     {
         let needed = 6 * self.count;
         let words = state.get(..needed).ok_or(Refusal::StateShort)?;
-        let Some((copy, _behind)) = work.split_at_mut_checked(needed) else {
-            return Err(Refusal::WorkShort);
-        };
+        let halves = work.split_at_mut_checked(needed);
+        let (copy, _behind) = halves.ok_or(Refusal::WorkShort)?;
         copy.copy_from_slice(words);
         let mover = Mover {
             system: self,
@@ -130,7 +127,7 @@ mod tests {
 
     const FAR: u64 = 1 << 60;
 
-    // Bodies of masses 2 and 1, with the least softening.
+    // Bodies of masses 2 and 1, with the least softening. `run` says why it is written out here too.
     fn pair() -> Option<System> {
         let masses = [Mass::new(2)?, Mass::new(1)?];
         System::new(Softening::new(Softening::LEAST)?, &masses).ok()

@@ -38,6 +38,7 @@ pub enum Refusal {
 
 impl Refusal {
     /// Gives the number of the refusal.
+    // Numbers and places are those of the rules, and are printed.
     pub fn number(self) -> u64
         ensures { result ≡ number_of self }
     {

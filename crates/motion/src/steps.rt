@@ -11,6 +11,7 @@ use crate::turn::{Direction, Turn};
 
 impl Mover<'_> {
     /// Makes a step, or a step back.
+    // `advance_share` says why the two orders stand there once more.
     fn advance(&self, state: &mut [u64], roots: &mut [u64])
         requires state { length state.old ≡ 6 * self.now.system.now.count }
         requires roots { length roots.old ≡ work_length self.now.system.now.count }

@@ -2,7 +2,7 @@
 
 #![tactic(auto)]
 
-ghost use Rattle.std.specs.Prelude.{◌≡◌, ◌*◌, ◌≤◌, length, take, drop, MatchResult};
+ghost use Rattle.std.specs.Prelude.{◌≡◌, ◌*◌, ◌<◌, ◌≤◌, length, take, drop, MatchResult};
 ghost use Rattle.motion.specs.Memory.{state_of, state_length};
 ghost use Rattle.motion.specs.Refusals.{told};
 ghost use Rattle.motion.specs.Systems.{stepped};
@@ -24,6 +24,16 @@ pub struct SharedStep {
     pub first: [bool; 64],
 }
 
+/// Looks whether a slice of this length is as long as is needed.
+fn check_length(length: usize, needed: usize, refusal: Refusal) -> Result<(), Refusal>
+    ensures { MatchResult result (λ _. needed ≤ length) (λ e. (length < needed) × (e ≡ refusal)) }
+{
+    if length < needed {
+        return Err(refusal);
+    }
+    Ok(())
+}
+
 /// Works out a step, or a step back, for the bodies of a share, and writes their rows, in ascending order. Gives the number
 /// of bytes. `work` has room for the words of a state, which may be anything.
 pub fn work_out(
@@ -40,16 +50,10 @@ pub fn work_out(
 {
     let count = system.count();
     let words = 6 * count;
-    if state.len() < words {
-        return Err(Refusal::StateShort);
-    }
-    if work.len() < words {
-        return Err(Refusal::WorkShort);
-    }
+    check_length(state.len(), words, Refusal::StateShort)?;
+    check_length(work.len(), words, Refusal::WorkShort)?;
     let needed = ROW * count_members(share, count);
-    if rows.len() < needed {
-        return Err(Refusal::RowsShort);
-    }
+    check_length(rows.len(), needed, Refusal::RowsShort)?;
     system.step_share(share, direction, state, work)?;
     write_rows(share, &work[..words], &mut rows[..needed]);
     Ok(needed)
@@ -63,9 +67,7 @@ pub fn take_in(system: &System, rows: &[u8], state: &mut [u64]) -> Result<(), Re
 {
     let count = system.count();
     let words = 6 * count;
-    if state.len() < words {
-        return Err(Refusal::StateShort);
-    }
+    check_length(state.len(), words, Refusal::StateShort)?;
     check_rows(rows, count)?;
     take_rows(rows, &mut state[..words]);
     Ok(())
@@ -86,18 +88,10 @@ pub fn together(
     ensures room { MatchResult result (λ _. RoomLeft system.now.count work.old work.new rows.old rows.new) (λ _. (work.new ≡ work.old) × (rows.new ≡ rows.old)) }
 {
     let count = system.count();
-    if first.len() < 6 * count {
-        return Err(Refusal::StateShort);
-    }
-    if second.len() < 6 * count {
-        return Err(Refusal::StateShort);
-    }
-    if work.len() < 6 * count {
-        return Err(Refusal::WorkShort);
-    }
-    if rows.len() < ROW * count {
-        return Err(Refusal::RowsShort);
-    }
+    check_length(first.len(), 6 * count, Refusal::StateShort)?;
+    check_length(second.len(), 6 * count, Refusal::StateShort)?;
+    check_length(work.len(), 6 * count, Refusal::WorkShort)?;
+    check_length(rows.len(), ROW * count, Refusal::RowsShort)?;
     for step in steps {
         share_step(system, *step, first, second, work, rows)?;
     }
@@ -168,7 +162,7 @@ mod tests {
 
     const FAR: u64 = 1 << 60;
 
-    // Bodies of masses 2 and 1, with the least softening.
+    // Bodies of masses 2 and 1, with the least softening. `run` says why it is written out here too.
     fn pair() -> Option<System> {
         let masses = [Mass::new(2)?, Mass::new(1)?];
         System::new(Softening::new(Softening::LEAST)?, &masses).ok()

@@ -9,6 +9,7 @@ use words::write_number;
 pub(crate) const ROW: usize = 49;
 
 /// Writes the row of a body, by its six words.
+// The row is a slice of 49, and no array: a part that is lent to be written is a slice.
 fn write_row(words: &[u64; 6], body: u8, row: &mut [u8])
     requires { length row.old ≡ 49 }
     ensures { RowWritten words.now body row.new }

@@ -53,6 +53,7 @@ pub(crate) fn check_rows(bytes: &[u8], count: usize) -> Result<(), Refusal>
 }
 
 /// Writes a row into a body's six words.
+// A slice of six, and no array: a part that is lent to be written is a slice.
 fn take_row(row: &[u8; ROW], words: &mut [u64])
     requires { length words.old ≡ 6 }
     ensures { RowTaken row.now words.new }

@@ -12,15 +12,15 @@ pub returns : goal.returns
 returns c =
     let system = c.args.self.now in
     let n = system.count in
-    let cut = c.in-Some.ensures.cases in
-    let cut' = c.in-Some-split_at_mut_checked.ensures.cases in
+    let cut = rw c.in_ok-state.ensures.ok_part at c.split_at_mut_checked-halves.ensures.cases in
+    let cut' = rw c.in_ok-work.ensures.ok_part at c.split_at_mut_checked-halves-2.ensures.cases in
     let ys = c.make_turns.new.state in
     let zs = c.make_turns.new.roots in
     let long : 6 * n ≤ length c.args.state.now = omega (arith, cut.4) in
     let long' : work_length n ≤ length c.args.work.now = omega (arith, cut'.4) in
     let six : length ys ≡ 6 * n = search (rules, places) in
     let pairs : length zs ≡ work_length n = search (rules, places) in
-    let made : state_of n (ys ++ c.in-Some._behind.now) ≡ travel (step_of system) (back_of system) c.args.turns.now (state_of n c.args.state.now) =
+    let made : state_of n (ys ++ c.in_ok-state._behind.now) ≡ travel (step_of system) (back_of system) c.args.turns.now (state_of n c.args.state.now) =
     state_in_front n ys _ six ∙ c.make_turns.ensures
     ∙ ap (travel (step_of system) (back_of system) c.args.turns.now) (sym (ap (state_of n) cut.0 ∙ state_in_front n _ _ cut.1)) in
     record {
