@@ -7,10 +7,14 @@ ghost use Rattle.std.specs.Process.{exit_status};
 ghost use Rattle.input.specs.Requests.{Asks};
 
 use std::alloc::{AllocError, Global};
+use std::fmt::InlineText;
 use std::io::Read;
 use std::process::ExitCode;
 use std::{fmt, fs, io};
 use thiserror::Error;
+
+/// The most bytes that are told of an error.
+const ERROR_ROOM: usize = 120;
 
 /// What the words of a command line ask for.
 pub enum Request<'a> {
@@ -22,7 +26,7 @@ pub enum Request<'a> {
     Files(&'a [String]),
 }
 
-/// Why a program on files has no answer. It holds whole names, however long they are.
+/// Why a program on files has no answer. It holds whole names, however long they are; `finish` tells so much as has room.
 #[derive(Debug, Drop, Error)]
 pub enum InputError {
     #[error("there is no option {option} ({program} --help tells more)")]
@@ -86,7 +90,8 @@ pub fn read_input(rt: &HostRuntime, names: &[String]) -> Result<Vec<u8>, InputEr
     Ok(bytes)
 }
 
-/// Gives the exit status of a program that ends so: 0 where nothing is refused, else 1. An error is told under its name.
+/// Gives the exit status of a program that ends so: 0 where nothing is refused, else 1. An error is told under its name, on a
+/// line of its own that a long text does not fill: one of more than 120 bytes is cut, and ends in three dots.
 pub fn finish<R: Drop, E: fmt::Display + Drop>(
     rt: &HostRuntime,
     program: &str,
@@ -99,8 +104,9 @@ pub fn finish<R: Drop, E: fmt::Display + Drop>(
         Ok(None) => ExitCode::SUCCESS,
         Ok(Some(_)) => ExitCode::FAILURE,
         Err(error) => {
+            let text = InlineText::<{ ERROR_ROOM }>::of(error);
             // Where even this cannot be written, the exit status is all that can tell.
-            let _told = eprintln!(rt; "{program}: {error}").is_ok();
+            let _told = eprintln!(rt; "{program}: {}", text.as_str()).is_ok();
             ExitCode::FAILURE
         }
     }

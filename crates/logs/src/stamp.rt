@@ -8,7 +8,7 @@ ghost use Rattle.logs.specs.Logs.{state_sum, time_word};
 use calls::{Player, Session};
 use motion::check_sum;
 use std::alloc::AllocError;
-use words::number_in;
+use words::{number_in, write_number};
 
 /// The words of a time and of a check sum.
 #[derive(Clone, Copy, PartialEq, Eq)]
@@ -62,5 +62,8 @@ fn state_sum(player: &Player, state: &[u64]) -> u64
 fn append_word(log: &mut Vec<u8>, word: u64) -> Result<(), AllocError>
     ensures { OnOk result (log.new.items ≡ log.old.items ++ bytes_of 8 word) }
 {
-    log.extend_from_slice(&word.to_le_bytes())
+    // Not `to_le_bytes`: `write_number` states how numbers stand in bytes, and so a log holds to that.
+    let mut bytes = [0; 8];
+    write_number(&mut bytes, word);
+    log.extend_from_slice(&bytes)
 }

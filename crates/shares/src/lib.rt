@@ -10,7 +10,7 @@ ghost use Rattle.shares.specs.Rows.{Sent, sending};
 ghost use Rattle.shares.specs.Taking.{Taken, taking};
 ghost use Rattle.shares.specs.Together.{Together, Shared, RoomLeft, RowsOf, merged, lent_together};
 
-use crate::rows::{ROW, count_members, write_rows};
+use crate::rows::{ROW, complement, count_members, write_rows};
 use crate::taking::{check_rows, take_rows};
 use motion::{Direction, Refusal, System};
 
@@ -139,7 +139,8 @@ fn gather(
     ensures room { MatchResult result (λ _. RoomLeft system.now.count work.old work.new rows.old rows.new) (λ _. ⊥) }
 {
     let share = shared.first;
-    let others = share.map(|member| !member);
+    let mut others = [false; 64];
+    complement(&share, &mut others);
     let sent = work_out(system, &share, shared.direction, first, work, rows)?;
     let more = work_out(
         system,

@@ -1,5 +1,5 @@
 //! Numbers whose type states their range.
-ghost use Rattle.std.specs.Prelude.{◌≡◌, ◌<◌, ◌≤◌, ◌⊎◌, MatchOption};
+ghost use Rattle.std.specs.Prelude.{◌≡◌, ◌^◌, ◌<◌, ◌≤◌, ◌⊎◌, MatchOption};
 
 /// A number from `LEAST` to `MOST`.
 #[derive(Clone, Copy, PartialEq, Eq, PartialOrd, Ord, Debug)]
@@ -45,4 +45,12 @@ impl Softening {
     pub const LEAST: u64 = 1 << 20;
     /// The largest softening.
     pub const MOST: u64 = 1 << 40;
+
+    /// Gives the least and the largest softening. Its contract is what holds the two constants to their values.
+    pub fn ends() -> (u64, u64)
+        ensures least { result.0 ≡ 2 ^ 20 }
+        ensures most { result.1 ≡ 2 ^ 40 }
+    {
+        (Softening::LEAST, Softening::MOST)
+    }
 }

@@ -1,5 +1,5 @@
 -- There is room for all rows, so nothing is refused; and each body has one of them.
-use Rattle.std.proofs.Common.{◌≡◌, ℕ, ◌+◌, ◌-◌, ◌*◌, ◌<◌, ◌≤◌, false, not, length, refl, ◌∙◌, arith, length-drop, length-take, rules}
+use Rattle.std.proofs.Common.{◌≡◌, ℕ, ◌+◌, ◌-◌, ◌*◌, ◌<◌, ◌≤◌, not, length, refl, ◌∙◌, arith, length-drop, length-take, rules}
 use borrow.Rule.Slice.PartMut.{put_mid}
 use Rattle.std.proofs.lemmas.List.{places}
 use Rattle.motion.specs.Changes.{member}
@@ -22,11 +22,10 @@ pub returns-in_err-more : goal.returns-in_err-more
 returns-in_err-more c =
     let n = c.args.system.now.count in
     let share = c.args.shared.first in
-    let rest = c.map-others.result in
-    let mapped = c.map-others.ensures.items in
-    let sixty_four : length rest ≡ 64 = mapped.long in
+    let rest = c.complement.new.others in
+    let sixty_four : length rest ≡ 64 = search rules in
     let few : n ≤ length rest = (let most = c.args.system.now.most in omega arith) in
-    let others : (b : ℕ) → b < n → member rest b ≡ not (member share b) = λ b h. let call = (mapped.at b false false (omega arith)).2 in search rules in
+    let others : (b : ℕ) → b < n → member rest b ≡ not (member share b) = λ b h. c.complement.ensures b (omega arith) in
     let both = members_both share rest n others in
     let size = c.in_ok-sent.ensures.rows.size in
     absurd (never _ _ _ _ c.in_err-more.ensures.answer
@@ -36,11 +35,10 @@ pub returns : goal.returns
 returns c =
     let n = c.args.system.now.count in
     let share = c.args.shared.first in
-    let rest = c.map-others.result in
-    let mapped = c.map-others.ensures.items in
-    let sixty_four : length rest ≡ 64 = mapped.long in
+    let rest = c.complement.new.others in
+    let sixty_four : length rest ≡ 64 = search rules in
     let few : n ≤ length rest = (let most = c.args.system.now.most in omega arith) in
-    let others : (b : ℕ) → b < n → member rest b ≡ not (member share b) = λ b h. let call = (mapped.at b false false (omega arith)).2 in search rules in
+    let others : (b : ℕ) → b < n → member rest b ≡ not (member share b) = λ b h. c.complement.ensures b (omega arith) in
     let both = members_both share rest n others in
     let one = c.in_ok-sent.ensures.rows in
     let two = c.in_ok-more.ensures.rows in
