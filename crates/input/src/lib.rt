@@ -90,8 +90,8 @@ pub fn read_input(rt: &HostRuntime, names: &[String]) -> Result<Vec<u8>, InputEr
     Ok(bytes)
 }
 
-/// Gives the exit status of a program that ends so: 0 where nothing is refused, else 1. An error is told under its name, on a
-/// line of its own that a long text does not fill: one of more than 120 bytes is cut, and ends in three dots.
+/// Gives the exit status of a program that ends so: 0 where nothing is refused, else 1. An error is told behind the program's
+/// name: a text of more than 120 bytes is cut, and ends in three dots.
 pub fn finish<R: Drop, E: fmt::Display + Drop>(
     rt: &HostRuntime,
     program: &str,

@@ -23,7 +23,7 @@ impl Mover<'_> {
                 self.drift(&Everyone, state);
             }
             Direction::Behind => {
-                self.drift(&Everyone, state); // First what a step does last.
+                self.drift(&Everyone, state); // A step back does first what a step does last.
                 self.kick_all(state, roots);
             }
         }
